@@ -1,0 +1,125 @@
+-- Laws of the bits of a table: in a word, in a table of zeros, after a store, while a row is replaced word by word.
+use mathlib.Core.Path.{_≡_, refl, sym, ap, ap₂, _∙_}
+use mathlib.Core.List.{List}
+use Prim.Native.Nat.{ℕ, zero, suc, _+_, _*_, _/_, _%_, _^_, _≤_, _<_, max}
+use native.Mathlib.Decide.{ℕ-discrete}
+use native.Mathlib.Omega.{arith}
+use lib.Bits.{bitAnd, bitOr, and-mask}
+use lib.ListN.{length, getD, set, length-set, replicate}
+use lib.Seq.{getD-set-same, getD-set-other}
+use Rattle.bits.specs.Table.{row-words, row-bits, bit, bit-at, union, Marked, Replaced}
+use Rattle.bits.proofs.Word.{bit-lt, bit-or, bit-zero, set-here, set-other}
+
+pub bit-at-lt : (t : List ℕ) (row col : ℕ) → bit-at t row col < 2
+unfolding bit-at
+bit-at-lt t row col = bit-lt (getD t (row-words * row + col / 64) 0) (col % 64)
+
+-- the bit of a word is that of the table
+pub in-word : (t : List ℕ) (i row col : ℕ) → row-words * row + col / 64 ≡ i → bit (getD t i 0) (col % 64) ≡ bit-at t row col
+unfolding bit-at
+in-word t i row col e = ap (λ (x : ℕ). bit (getD t x 0) (col % 64)) (sym e)
+
+-- the same of a word of a row and one of a mask, joined by op
+pub in-words : (op : ℕ → ℕ → ℕ) (t m : List ℕ) (row k c : ℕ) → c / 64 ≡ k
+    → op (bit (getD t (row-words * row + k) 0) (c % 64)) (bit (getD m k 0) (c % 64)) ≡ op (bit-at t row c) (bit-at m 0 c)
+in-words op t m row k c e =
+    ap₂ op (in-word t (row-words * row + k) row c (omega arith)) (in-word m k 0 c (omega arith))
+
+-- g is the part of f in the word k
+pub at-column : (f g : ℕ → ℕ) (k : ℕ) → ((c : ℕ) → c / 64 ≡ k → g (c % 64) ≡ f c) → (j : ℕ) → j < 64 → g j ≡ f (64 * k + j)
+at-column f g k part j h =
+    let e : (64 * k + j) % 64 ≡ j = omega arith in
+    ap g (sym e) ∙ part (64 * k + j) (omega arith)
+
+-- the code's test of a bit
+pub read-bit : (t : List ℕ) (i row col : ℕ) → row-words * row + col / 64 ≡ i → bitAnd (getD t i 0 / 2 ^ (col % 64)) 1 ≡ bit-at t row col
+read-bit t i row col e = and-mask (getD t i 0 / 2 ^ (col % 64)) 1 ∙ in-word t i row col e
+
+-- a table of zeros has no bit set
+getD-zeros : (n i : ℕ) → _≡_ {A = ℕ} (getD (replicate n zero) i zero) zero
+getD-zeros zero i = refl
+getD-zeros (suc n) zero = refl
+getD-zeros (suc n) (suc i) = getD-zeros n i
+
+pub zeros-bit : (n row col : ℕ) → bit-at (replicate n zero) row col ≡ 0
+unfolding bit-at
+zeros-bit n row col = ap (λ (x : ℕ). bit x (col % 64)) (getD-zeros n (row-words * row + col / 64)) ∙ bit-zero (col % 64)
+
+-- ---- after the store of one word
+
+store-same : (t : List ℕ) (i v row col : ℕ) → i < length t → row-words * row + col / 64 ≡ i → bit-at (set t i v) row col ≡ bit v (col % 64)
+store-same t i v row col h e = sym (in-word (set t i v) i row col e) ∙ ap (λ (x : ℕ). bit x (col % 64)) (getD-set-same t i v 0 h)
+
+store-other : (t : List ℕ) (i v row col : ℕ) → (row-words * row + col / 64 ≡ i → ⊥) → bit-at (set t i v) row col ≡ bit-at t row col
+unfolding bit-at
+store-other t i v row col h = ap (λ (x : ℕ). bit x (col % 64)) (getD-set-other t i (row-words * row + col / 64) v 0 h)
+
+pub marked-by : (t : List ℕ) (i row col : ℕ) → i < length t → col < row-bits → row-words * row + col / 64 ≡ i
+    → Marked t (set t i (bitOr (getD t i 0) (1 * 2 ^ (col % 64) % 2 ^ 64))) row col
+marked-by t i row col hi hc at = record { here = here; other = other }
+  where
+    v : ℕ
+    v = bitOr (getD t i 0) (1 * 2 ^ (col % 64) % 2 ^ 64)
+
+    here : bit-at (set t i v) row col ≡ 1
+    here = store-same t i v row col hi at ∙ set-here (getD t i 0) (col % 64) (omega arith)
+
+    other : (r c : ℕ) → c < row-bits → ((r ≡ row) × (c ≡ col) → ⊥) → bit-at (set t i v) r c ≡ bit-at t r c
+    other r c h ne = go (ℕ-discrete (row-words * r + c / 64) i)
+      where
+        go : Dec (row-words * r + c / 64 ≡ i) → bit-at (set t i v) r c ≡ bit-at t r c
+        go (no d) = store-other t i v r c d
+        go (yes e) =
+            store-same t i v r c hi e
+            ∙ set-other (getD t i 0) (col % 64) (c % 64) (omega arith) (λ q. ne (omega arith, omega arith))
+            ∙ in-word t i r c e
+
+-- ---- a row replaced word by word
+
+-- u is t with its row dst replaced in the first k words
+pub record ReplacedUpTo (t u : List ℕ) (dst : ℕ) (f : ℕ → ℕ) (k : ℕ) : Type 0 where
+  pub size : length u ≡ length t
+  pub here : (c : ℕ) → c < 64 * k → bit-at u dst c ≡ f c
+  pub other : (r c : ℕ) → c < row-bits → ((r ≡ dst) × (c < 64 * k) → ⊥) → bit-at u r c ≡ bit-at t r c
+
+pub replaced-none : (t : List ℕ) (dst : ℕ) (f : ℕ → ℕ) → ReplacedUpTo t t dst f 0
+replaced-none t dst f = record { size = refl; here = λ c h. omega arith; other = λ r c h ne. refl }
+
+pub replaced-all : {t u : List ℕ} {dst : ℕ} {f : ℕ → ℕ} {k : ℕ} → row-words ≤ k → ReplacedUpTo t u dst f k → Replaced t u dst f
+replaced-all {k = k} l b = record { here = λ c h. b .here c (omega arith); other = λ r c h ne. b .other r c h (λ q. ne (q .0)) }
+
+-- the next word, whose bits are those of f at its columns
+replaced-more : (t u : List ℕ) (dst : ℕ) (f : ℕ → ℕ) (k v : ℕ) → row-words * dst + k < length t → k < row-words → ReplacedUpTo t u dst f k
+    → ((c : ℕ) → c / 64 ≡ k → bit v (c % 64) ≡ f c) → ReplacedUpTo t (set u (row-words * dst + k) v) dst f (k + 1)
+replaced-more t u dst f k v hi hk b word = record { size = length-set u i v ∙ b .size; here = here; other = other }
+  where
+    i : ℕ
+    i = row-words * dst + k
+
+    hu : i < length u
+    hu = omega (arith, b .size)
+
+    here : (c : ℕ) → c < 64 * (k + 1) → bit-at (set u i v) dst c ≡ f c
+    here c h = go (ℕ-discrete (c / 64) k)
+      where
+        go : Dec (c / 64 ≡ k) → bit-at (set u i v) dst c ≡ f c
+        go (yes e) = store-same u i v dst c hu (omega arith) ∙ word c e
+        go (no n) = store-other u i v dst c (λ e. n (omega arith)) ∙ b .here c (omega arith)
+
+    other : (r c : ℕ) → c < row-bits → ((r ≡ dst) × (c < 64 * (k + 1)) → ⊥) → bit-at (set u i v) r c ≡ bit-at t r c
+    other r c h ne =
+        store-other u i v r c (λ e. ne (omega arith, omega arith)) ∙ b .other r c h (λ q. ne (q .0, omega arith))
+
+-- the columns of the word k are still those of t, in every row
+pub kept : {t u : List ℕ} {dst : ℕ} {f : ℕ → ℕ} {k : ℕ} (row c : ℕ) → k < row-words → c / 64 ≡ k → ReplacedUpTo t u dst f k
+    → bit (getD u (row-words * row + k) 0) (c % 64) ≡ bit-at t row c
+kept {t} {u} {dst} {f} {k} row c hk e b =
+    in-word u (row-words * row + k) row c (omega arith) ∙ b .other row c (omega arith) (λ q. omega arith)
+
+-- the next word of the union with g, of which the word x holds the columns of the word k
+pub union-more : (t u : List ℕ) (dst : ℕ) (g : ℕ → ℕ) (k x : ℕ) → row-words * dst + k < length t → k < row-words
+    → ReplacedUpTo t u dst (union (bit-at t dst) g) k → ((c : ℕ) → c / 64 ≡ k → bit x (c % 64) ≡ g c)
+    → ReplacedUpTo t (set u (row-words * dst + k) (bitOr (getD u (row-words * dst + k) 0) x)) dst (union (bit-at t dst) g) (k + 1)
+union-more t u dst g k x hi hk b word =
+    replaced-more t u dst (union (bit-at t dst) g) k (bitOr (getD u (row-words * dst + k) 0) x) hi hk b
+    (λ c e. bit-or (getD u (row-words * dst + k) 0) x (c % 64) ∙ ap₂ max (kept dst c hk e b) (word c e))

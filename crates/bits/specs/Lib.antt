@@ -1,0 +1,3 @@
+-- The root of the specs of `bits`.
+pub mod Table
+pub mod First

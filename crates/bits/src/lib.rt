@@ -1,0 +1,163 @@
+// Tables of bits. A row is ROW_WORDS words of 64 bits, and a table has as many rows as a row has bits.
+ghost use mathlib.Core.Path.{_≡_};
+ghost use Prim.Native.Nat.{ℕ, _<_, _≤_};
+ghost use lib.ListN.{length};
+ghost use lib.Dec.{eqb};
+ghost use Rattle.bits.specs.Table.{row-words, row-bits, rows, table-words, bit, bit-at};
+ghost use Rattle.bits.specs.Table.{union, intersection, difference, cardinality, Marked, Replaced, Within};
+ghost use Rattle.bits.specs.First.{First};
+
+// The number of words in a row. The other sizes follow from it.
+pub const ROW_WORDS: usize = 2;
+
+pub const ROW_BITS: usize = 64 * ROW_WORDS;
+
+pub const TABLE_WORDS: usize = ROW_BITS * ROW_WORDS;
+
+pub type Row = [u64; ROW_WORDS];
+
+pub type Table = [u64; TABLE_WORDS];
+
+pub enum Found {
+    At(usize),
+    Nothing,
+}
+
+// These two do nothing: what owning a table or a row tells of its length, told to a function that has it by `&mut`.
+pub fn sized(t: Table)
+    ensures { λ r. ⌜ length t ≡ table-words ⌝ }
+{}
+
+pub fn sized_row(m: Row)
+    ensures { λ r. ⌜ length m ≡ row-words ⌝ }
+{}
+
+// Whether the bit at (row, col) is set.
+pub fn marked(t: &Table, row: usize, col: usize) -> bool
+    requires { ⌜ (row < rows) × (col < row-bits) ⌝ }
+    ensures { λ r. ⌜ r ≡ eqb (bit-at (now (t .entry)) row col) 1 ⌝ }
+{
+    (t[ROW_WORDS * row + col / 64] >> (col % 64)) & 1 == 1
+}
+
+// Sets the bit at (row, col).
+pub fn mark(t: &mut Table, row: usize, col: usize)
+    requires { ⌜ (row < rows) × (col < row-bits) ⌝ }
+    ensures { λ r. ⌜ Marked (now (t .entry)) (now (t .exit)) row col ⌝ }
+{
+    sized(*t);
+    let at = ROW_WORDS * row + col / 64;
+    t[at] = t[at] | (1 << (col % 64));
+}
+
+// Whether the column is in the row m.
+pub fn has(m: &Row, col: usize) -> bool
+    requires { ⌜ col < row-bits ⌝ }
+    ensures { λ r. ⌜ r ≡ eqb (bit-at (now (m .entry)) 0 col) 1 ⌝ }
+{
+    (m[col / 64] >> (col % 64)) & 1 == 1
+}
+
+// Adds the column to the row m.
+pub fn add(m: &mut Row, col: usize)
+    requires { ⌜ col < row-bits ⌝ }
+    ensures { λ r. ⌜ Marked (now (m .entry)) (now (m .exit)) 0 col ⌝ }
+{
+    sized_row(*m);
+    let at = col / 64;
+    m[at] = m[at] | (1 << (col % 64));
+}
+
+// Makes the row dst the union of the rows dst and src.
+pub fn join(t: &mut Table, dst: usize, src: usize)
+    requires { ⌜ (dst < rows) × (src < rows) ⌝ }
+    ensures { λ r. ⌜ Replaced (now (t .entry)) (now (t .exit)) dst (union (bit-at (now (t .entry)) dst) (bit-at (now (t .entry)) src)) ⌝ }
+{
+    sized(*t);
+    for k in 0..ROW_WORDS {
+        let at = ROW_WORDS * dst + k;
+        t[at] = t[at] | t[ROW_WORDS * src + k];
+    }
+}
+
+// Adds to the row dst of t those columns of the row src of u that are in the mask.
+pub fn join_within(t: &mut Table, dst: usize, u: &Table, src: usize, mask: &Row)
+    requires { ⌜ (dst < rows) × (src < rows) ⌝ }
+    ensures { λ r. ⌜ Replaced (now (t .entry)) (now (t .exit)) dst
+        (union (bit-at (now (t .entry)) dst) (intersection (bit-at (now (u .entry)) src) (bit-at (now (mask .entry)) 0))) ⌝ }
+{
+    sized(*t);
+    for k in 0..ROW_WORDS {
+        let at = ROW_WORDS * dst + k;
+        t[at] = t[at] | (u[ROW_WORDS * src + k] & mask[k]);
+    }
+}
+
+// The first marked column of the row at or after `from`.
+pub fn next(t: &Table, row: usize, from: usize) -> Found
+    requires { ⌜ row < rows ⌝ }
+    ensures { λ r. ⌜ First (bit-at (now (t .entry)) row) from r ⌝ }
+{
+    let mut k = from / 64;
+    let mut low = from % 64;
+    while k < ROW_WORDS {
+        let b = low + u64::trailing_zeros(t[ROW_WORDS * row + k] >> low) as usize;
+        if b < 64 {
+            return Found::At(64 * k + b);
+        }
+        low = 0;
+        k += 1;
+    }
+    Found::Nothing
+}
+
+// The bits of w that are not in m.
+fn outside(w: u64, m: u64) -> u64
+    ensures { λ r. ⌜ ((b : ℕ) → b < 64 → bit r b ≡ difference (bit w) (bit m) b) ⌝ }
+{
+    w & !m
+}
+
+// The first marked column of the row that is not in the mask.
+pub fn first_outside(t: &Table, row: usize, mask: &Row) -> Found
+    requires { ⌜ row < rows ⌝ }
+    ensures { λ r. ⌜ First (difference (bit-at (now (t .entry)) row) (bit-at (now (mask .entry)) 0)) 0 r ⌝ }
+{
+    for k in 0..ROW_WORDS {
+        let b = u64::trailing_zeros(outside(t[ROW_WORDS * row + k], mask[k])) as usize;
+        if b < 64 {
+            return Found::At(64 * k + b);
+        }
+    }
+    Found::Nothing
+}
+
+// Whether every marked column of the row is in the mask.
+pub fn within(t: &Table, row: usize, mask: &Row) -> bool
+    requires { ⌜ row < rows ⌝ }
+    ensures { λ r. ⌜ Within (bit-at (now (t .entry)) row) (bit-at (now (mask .entry)) 0) r ⌝ }
+{
+    match first_outside(t, row, mask) {
+        Found::At(_) => false,
+        Found::Nothing => true,
+    }
+}
+
+// How many bits w and m have in common.
+fn count_common(w: u64, m: u64) -> usize
+    ensures { λ r. ⌜ (r ≡ cardinality (intersection (bit w) (bit m)) 64) × (r ≤ 64) ⌝ }
+{
+    u64::count_ones(w & m) as usize
+}
+
+// How many marked columns of the row are in the mask.
+pub fn count_within(t: &Table, row: usize, mask: &Row) -> usize
+    requires { ⌜ row < rows ⌝ }
+    ensures { λ r. ⌜ r ≡ cardinality (intersection (bit-at (now (t .entry)) row) (bit-at (now (mask .entry)) 0)) row-bits ⌝ }
+{
+    let mut n = 0;
+    for k in 0..ROW_WORDS {
+        n += count_common(t[ROW_WORDS * row + k], mask[k]);
+    }
+    n
+}
