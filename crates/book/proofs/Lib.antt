@@ -1,0 +1,8 @@
+-- Lemmas. Lists: the tables as lists. Books: what a valid book means by its fields, and what each stored command adds. Empty: the empty book.
+-- Commands: what each command's function says. Loop: the reader's loop. Determined: a valid book is determined by what it means.
+pub mod Lists
+pub mod Books
+pub mod Empty
+pub mod Commands
+pub mod Loop
+pub mod Determined
