@@ -1,5 +1,4 @@
--- The laws behind the proofs of `bits`. Users cite bit-at-lt and zeros-bit of Store, and the laws of cardinality of Counting.
+-- The laws behind the proofs of `bits`. Users cite bit-at-lt and zeros-bit of Store.
 pub mod Word
 pub mod Store
 pub mod Scan
-pub mod Counting

@@ -1,4 +1,4 @@
--- Laws of the bits of a table: in a word, in a table of zeros, after a store, while a row is replaced word by word.
+-- Laws of the bits of a table: in a word, in a table of zeros, after a store, while a row is replaced or copied word by word.
 use mathlib.Core.Path.{_≡_, refl, sym, ap, ap₂, _∙_}
 use mathlib.Core.List.{List}
 use Prim.Native.Nat.{ℕ, zero, suc, _+_, _*_, _/_, _%_, _^_, _≤_, _<_, max}
@@ -7,7 +7,7 @@ use native.Mathlib.Omega.{arith}
 use lib.Bits.{bitAnd, bitOr, and-mask}
 use lib.ListN.{length, getD, set, length-set, replicate}
 use lib.Seq.{getD-set-same, getD-set-other}
-use Rattle.bits.specs.Table.{row-words, row-bits, bit, bit-at, union, Marked, Replaced}
+use Rattle.bits.specs.Table.{row-words, row-bits, bit, bit-at, union, Marked, Replaced, Copied}
 use Rattle.bits.proofs.Word.{bit-lt, bit-or, bit-zero, set-here, set-other}
 
 pub bit-at-lt : (t : List ℕ) (row col : ℕ) → bit-at t row col < 2
@@ -89,7 +89,7 @@ pub replaced-all : {t u : List ℕ} {dst : ℕ} {f : ℕ → ℕ} {k : ℕ} → 
 replaced-all {k = k} l b = record { here = λ c h. b .here c (omega arith); other = λ r c h ne. b .other r c h (λ q. ne (q .0)) }
 
 -- the next word, whose bits are those of f at its columns
-replaced-more : (t u : List ℕ) (dst : ℕ) (f : ℕ → ℕ) (k v : ℕ) → row-words * dst + k < length t → k < row-words → ReplacedUpTo t u dst f k
+pub replaced-more : (t u : List ℕ) (dst : ℕ) (f : ℕ → ℕ) (k v : ℕ) → row-words * dst + k < length t → k < row-words → ReplacedUpTo t u dst f k
     → ((c : ℕ) → c / 64 ≡ k → bit v (c % 64) ≡ f c) → ReplacedUpTo t (set u (row-words * dst + k) v) dst f (k + 1)
 replaced-more t u dst f k v hi hk b word = record { size = length-set u i v ∙ b .size; here = here; other = other }
   where
@@ -123,3 +123,17 @@ pub union-more : (t u : List ℕ) (dst : ℕ) (g : ℕ → ℕ) (k x : ℕ) → 
 union-more t u dst g k x hi hk b word =
     replaced-more t u dst (union (bit-at t dst) g) k (bitOr (getD u (row-words * dst + k) 0) x) hi hk b
     (λ c e. bit-or (getD u (row-words * dst + k) 0) x (c % 64) ∙ ap₂ max (kept dst c hk e b) (word c e))
+
+-- ---- a row copied word by word
+
+pub copied-none : (t m : List ℕ) (row : ℕ) → length m ≡ row-words → ReplacedUpTo m m 0 (bit-at t row) 0
+copied-none t m row e = replaced-none m 0 (bit-at t row)
+
+pub copied-more : (z t m : List ℕ) (row k : ℕ) → k < row-words → length m ≡ row-words → ReplacedUpTo z m 0 (bit-at t row) k
+    → ReplacedUpTo z (set m k (getD t (row-words * row + k) 0)) 0 (bit-at t row) (k + 1)
+copied-more z t m row k hk e b =
+    let i : row-words * 0 + k ≡ k = omega arith in
+    rw i at (replaced-more z m 0 (bit-at t row) k (getD t (row-words * row + k) 0) (omega (arith, b .size)) hk b (λ c q. in-word t (row-words * row + k) row c (omega arith)))
+
+pub copied-all : (z t m : List ℕ) (row k : ℕ) → row-words ≤ k → ReplacedUpTo z m 0 (bit-at t row) k → Copied t row m
+copied-all z t m row k h b = record { same = λ c hc. b .here c (omega arith) }

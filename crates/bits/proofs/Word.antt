@@ -1,15 +1,15 @@
 -- Laws of one bit of a number: of and, or, complement and shifts, of 2 ^ j, and of trailing zeros.
 use mathlib.Core.Path.{_≡_, refl, sym, ap, _∙_}
-use Prim.Native.Nat.{ℕ, zero, suc, _+_, _-_, _*_, _/_, _%_, _^_, _<_, min, max}
-use native.Mathlib.Nat.{mod-lt, mod-eq-of-lt, div-eq-of-lt, mul-mod-left, one-mul, pow-suc}
+use Prim.Native.Nat.{ℕ, zero, suc, _+_, _-_, _*_, _/_, _%_, _^_, _≤_, _<_, min, max}
+use native.Mathlib.Nat.{mod-lt, mod-eq-of-lt, div-eq-of-lt, div-eq-sub-div, lt-of-lt-of-le, mul-mod-left, one-mul, pow-suc}
 use native.Mathlib.Decide.{decLt}
 use native.Mathlib.Numerals.{one-add}
 use native.Mathlib.Omega.{arith}
 use lib.Dec.{lit<}
 use lib.Arith.{digits-mod}
-use lib.Pow.{pow-pos, pow-lt, pow-add, shr-shr, shl-shr}
+use lib.Pow.{pow-pos, pow-mono, pow-lt, pow-add, shr-shr, shl-shr}
 use lib.Bits.{bitAnd, bitOr, and-step, or-step, and-shr, or-shr}
-use lib.Count.{trailingZeros, under}
+use lib.Count.{trailingZeros, leadingZeros, leading-of-zero, leading-top, under}
 use Rattle.bits.specs.Table.{bit}
 
 pub bit-lt : (n k : ℕ) → bit n k < 2
@@ -104,3 +104,21 @@ trailing-at (suc k) n h = go (λ l. trailing-at k (n / 2) l) (n % 2) refl h
         → under d (trailingZeros k (n / 2)) < suc k → bit n (under d (trailingZeros k (n / 2))) ≡ 1
     go ih zero e l = bit-half n (trailingZeros k (n / 2)) ∙ ih (omega arith)
     go ih (suc d) e l = omega arith
+
+-- ---- the highest bit of the k lowest
+
+pub leading-above : (k n j : ℕ) → n < 2 ^ k → k - leadingZeros k n ≤ j → bit n j ≡ 0
+leading-above k zero j h l = bit-zero j
+leading-above k (suc n) j h l =
+    let t = leading-top k (suc n) (omega arith) h in
+    bit-over (suc n) j (lt-of-lt-of-le (t .3) (pow-mono {i = suc (t .0)} {j = j} (omega (arith, t .1))))
+
+pub leading-at : (k n : ℕ) → n < 2 ^ k → 0 < k - leadingZeros k n → bit n (k - leadingZeros k n - 1) ≡ 1
+leading-at k zero h l = omega (arith, leading-of-zero k)
+leading-at k (suc n) h l =
+    let t = leading-top k (suc n) (omega arith) h in
+    let e : k - leadingZeros k (suc n) - 1 ≡ t .0 = omega (arith, t .1) in
+    ap (bit (suc n)) e ∙ ap (λ (x : ℕ). x % 2) (one-there (t .0) (t .2) (t .3))
+  where
+    one-there : (j : ℕ) → 2 ^ j ≤ suc n → suc n < 2 ^ suc j → suc n / 2 ^ j ≡ 1
+    one-there j a b = div-eq-sub-div (pow-pos j) a ∙ ap (λ (x : ℕ). x + 1) (div-eq-of-lt (omega (arith, pow-suc 2 j)))

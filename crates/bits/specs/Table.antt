@@ -2,7 +2,7 @@
 use mathlib.Core.Path.{_≡_}
 use mathlib.Core.Bool.{Bool, true}
 use mathlib.Core.List.{List}
-use Prim.Native.Nat.{ℕ, zero, suc, _+_, _-_, _*_, _/_, _%_, _^_, _<_, min, max}
+use Prim.Native.Nat.{ℕ, _+_, _-_, _*_, _/_, _%_, _^_, _<_, min, max}
 use lib.ListN.{getD}
 
 -- how many words of 64 bits a row has: the one number that the other sizes follow from
@@ -39,11 +39,6 @@ intersection f g c = min (f c) (g c)
 abbrev pub difference : (ℕ → ℕ) → (ℕ → ℕ) → ℕ → ℕ
 difference f g c = min (f c) (1 - g c)
 
--- how many of the columns below n are in f
-unfoldable pub cardinality : (ℕ → ℕ) → ℕ → ℕ
-cardinality f zero = 0
-cardinality f (suc n) = cardinality f n + f n
-
 -- u is t with the bit at (row, col) set and every other bit as it was
 pub record Marked (t u : List ℕ) (row col : ℕ) : Type 0 where
   pub here : bit-at u row col ≡ 1
@@ -53,6 +48,10 @@ pub record Marked (t u : List ℕ) (row col : ℕ) : Type 0 where
 pub record Replaced (t u : List ℕ) (dst : ℕ) (f : ℕ → ℕ) : Type 0 where
   pub here : (c : ℕ) → c < row-bits → bit-at u dst c ≡ f c
   pub other : (r c : ℕ) → c < row-bits → (r ≡ dst → ⊥) → bit-at u r c ≡ bit-at t r c
+
+-- m is the row of t, by itself
+pub record Copied (t : List ℕ) (row : ℕ) (m : List ℕ) : Type 0 where
+  pub same : (c : ℕ) → c < row-bits → bit-at m 0 c ≡ bit-at t row c
 
 -- answer says whether every column of f is one of g
 pub record Within (f g : ℕ → ℕ) (answer : Bool) : Type 0 where

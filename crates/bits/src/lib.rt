@@ -4,8 +4,9 @@ ghost use Prim.Native.Nat.{ℕ, _<_, _≤_};
 ghost use lib.ListN.{length};
 ghost use lib.Dec.{eqb};
 ghost use Rattle.bits.specs.Table.{row-words, row-bits, rows, table-words, bit, bit-at};
-ghost use Rattle.bits.specs.Table.{union, intersection, difference, cardinality, Marked, Replaced, Within};
+ghost use Rattle.bits.specs.Table.{union, intersection, difference, Marked, Replaced, Copied, Within};
 ghost use Rattle.bits.specs.First.{First};
+ghost use Rattle.bits.specs.Last.{Length, Last};
 
 // The number of words in a row. The other sizes follow from it.
 pub const ROW_WORDS: usize = 2;
@@ -83,8 +84,7 @@ pub fn join(t: &mut Table, dst: usize, src: usize)
 // Adds to the row dst of t those columns of the row src of u that are in the mask.
 pub fn join_within(t: &mut Table, dst: usize, u: &Table, src: usize, mask: &Row)
     requires { ⌜ (dst < rows) × (src < rows) ⌝ }
-    ensures { λ r. ⌜ Replaced (now (t .entry)) (now (t .exit)) dst
-        (union (bit-at (now (t .entry)) dst) (intersection (bit-at (now (u .entry)) src) (bit-at (now (mask .entry)) 0))) ⌝ }
+    ensures { λ r. ⌜ Replaced (now (t .entry)) (now (t .exit)) dst (union (bit-at (now (t .entry)) dst) (intersection (bit-at (now (u .entry)) src) (bit-at (now (mask .entry)) 0))) ⌝ }
 {
     sized(*t);
     for k in 0..ROW_WORDS {
@@ -143,21 +143,37 @@ pub fn within(t: &Table, row: usize, mask: &Row) -> bool
     }
 }
 
-// How many bits w and m have in common.
-fn count_common(w: u64, m: u64) -> usize
-    ensures { λ r. ⌜ (r ≡ cardinality (intersection (bit w) (bit m)) 64) × (r ≤ 64) ⌝ }
+// One more than the last bit that w and m have in common, or 0 where there is none.
+fn common_length(w: u64, m: u64) -> usize
+    ensures { λ r. ⌜ Length (intersection (bit w) (bit m)) r ⌝ }
 {
-    u64::count_ones(w & m) as usize
+    64 - u64::leading_zeros(w & m) as usize
 }
 
-// How many marked columns of the row are in the mask.
-pub fn count_within(t: &Table, row: usize, mask: &Row) -> usize
+// The last marked column of the row that is in the mask.
+pub fn last_within(t: &Table, row: usize, mask: &Row) -> Found
     requires { ⌜ row < rows ⌝ }
-    ensures { λ r. ⌜ r ≡ cardinality (intersection (bit-at (now (t .entry)) row) (bit-at (now (mask .entry)) 0)) row-bits ⌝ }
+    ensures { λ r. ⌜ Last (intersection (bit-at (now (t .entry)) row) (bit-at (now (mask .entry)) 0)) r ⌝ }
 {
-    let mut n = 0;
-    for k in 0..ROW_WORDS {
-        n += count_common(t[ROW_WORDS * row + k], mask[k]);
+    let mut k = ROW_WORDS;
+    while k > 0 {
+        k -= 1;
+        let n = common_length(t[ROW_WORDS * row + k], mask[k]);
+        if n > 0 {
+            return Found::At(64 * k + n - 1);
+        }
     }
-    n
+    Found::Nothing
+}
+
+// A row of the table, by itself.
+pub fn row_of(t: &Table, row: usize) -> Row
+    requires { ⌜ row < rows ⌝ }
+    ensures { λ r. ⌜ Copied (now (t .entry)) row r ⌝ }
+{
+    let mut m = [0; ROW_WORDS];
+    for k in 0..ROW_WORDS {
+        m[k] = t[ROW_WORDS * row + k];
+    }
+    m
 }

@@ -16,7 +16,7 @@ use Rattle.book.specs.declared.Cause.the-variants.{WriterBufferShort}
 use Rattle.book.specs.declared.Book.{Book}
 use Rattle.book.specs.declared.Reading.{Reading}
 use Rattle.book.specs.declared.Answer.the-variants.{Refused as Stopped, Accepted}
-use Rattle.writer.specs.declared.Written.the-variants.{Length, Refused, RefusedNoPlace}
+use Rattle.writer.specs.declared.Written.the-variants.{Length, Refused}
 use Rattle.writer.specs.Render.{pair-bytes, run-bytes, cut-bytes, done-bytes, command-bytes, render}
 use Rattle.writer.specs.Written.{Wrote}
 use Rattle.writer.specs.Tables.{pairs-of, runs-of, cuts-of, table-contents}
@@ -64,7 +64,7 @@ module _ (s out : List ℕ) (r : Reading) (h : ReadAs (read s) r) where
     accepts : read s ≡ accepted (lent (r .book))
     accepts = sym (h .outcome) ∙ rw (e, lent-contents (r .book) (h .valid))
 
-    pub wrote-short : length out < length s → Wrote s out out (RefusedNoPlace WriterBufferShort)
+    pub wrote-short : length out < length s → Wrote s out out (Refused WriterBufferShort 0)
     wrote-short l = record { answer = rw (accepts, lt-leb (length s) (length out) l); buffer = rw (accepts, lt-leb (length s) (length out) l) }
 
     module _ (fits : (i : ℕ) → Fits w8 (getD s i 0)) (l : length s ≤ length out) where

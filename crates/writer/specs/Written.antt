@@ -9,22 +9,22 @@ use Rattle.book.specs.Format.{Outcome, refused, accepted, pick, read}
 use Rattle.book.specs.Numbers.{number}
 use Rattle.book.specs.declared.Cause.the-variants.{WriterBufferShort}
 use Rattle.writer.specs.declared.Written.{Written}
-use Rattle.writer.specs.declared.Written.the-variants.{Length, Refused, RefusedNoPlace}
+use Rattle.writer.specs.declared.Written.the-variants.{Length, Refused}
 
--- document 01's number and values for each answer; 0 stands for no refusal
+-- document 01's number for each answer, 0 where there is no refusal, and its value: the length, or the place. 13 comes with the number only,
+-- and its place is 0
 pub record Report : Type 0 where
-  pub refusal : ℕ
-  pub values : List ℕ
+  pub number-is : ℕ
+  pub value-is : ℕ
 
 abbrev pub report : Written → Report
-report (Length n) = record { refusal = 0; values = n ∷ [] }
-report (Refused cause place) = record { refusal = number cause; values = place ∷ [] }
-report (RefusedNoPlace cause) = record { refusal = number cause; values = [] }
+report (Length n) = record { number-is = 0; value-is = n }
+report (Refused cause place) = record { number-is = number cause; value-is = place }
 
 -- the answer for the bytes s, with the outcome of reading them, and a buffer of n bytes: 1 to 11 come first, then 13
 abbrev pub written-by : Outcome → List ℕ → ℕ → Written
 written-by (refused cause place) s n = Refused cause place
-written-by (accepted c) s n = pick (leb (length s) n) (Length (length s)) (RefusedNoPlace WriterBufferShort)
+written-by (accepted c) s n = pick (leb (length s) n) (Length (length s)) (Refused WriterBufferShort 0)
 
 abbrev pub written : List ℕ → ℕ → Written
 written s n = written-by (read s) s n
@@ -33,7 +33,6 @@ written s n = written-by (read s) s n
 abbrev pub buffer-by : Written → List ℕ → List ℕ → List ℕ
 buffer-by (Length n) s out = s ++ drop (length s) out
 buffer-by (Refused cause place) s out = out
-buffer-by (RefusedNoPlace cause) s out = out
 
 -- what a call of the writer on the bytes s does to a buffer, and answers
 pub record Wrote (s before after : List ℕ) (r : Written) : Type 0 where

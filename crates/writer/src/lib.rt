@@ -16,10 +16,8 @@ ghost use Rattle.writer.specs.Written.{Wrote};
 pub enum Written {
     // So many bytes are put: the book's length.
     Length(usize),
-    // Refused by the reader, with the place.
+    // The cause and the place, which is 0 where the buffer is short.
     Refused(Cause, usize),
-    // Refused with the number only.
-    RefusedNoPlace(Cause),
 }
 
 fn wide(x: u8) -> usize
@@ -256,7 +254,7 @@ pub fn write(s: &[u8], out: &mut [u8]) -> Written
         Answer::Refused(cause, place) => Written::Refused(cause, place),
         Answer::Accepted => {
             if out.len() < s.len() {
-                return Written::RefusedNoPlace(Cause::WriterBufferShort);
+                return Written::Refused(Cause::WriterBufferShort, 0);
             }
             let b = reading.book;
             let n = put_book(

@@ -1,0 +1,9 @@
+-- The laws that the proofs of `graph` and of its users cite.
+pub mod Counting
+pub mod Steps
+pub mod DependenceRows
+pub mod BookTables
+pub mod Numbering
+pub mod UnitSteps
+pub mod UnitRows
+pub mod ArcMarks

@@ -1,0 +1,53 @@
+-- Each turn gains the arcs that come of one more run; of all runs they are all.
+use Prim.Native.Nat.{_≤_, _-_}
+use lib.ListN.{take}
+use Rattle.graph.specs.Arcs.{ArcByRuns, GainedBy}
+use Rattle.graph.proofs.ArcMarks.{mask-input, runs-none, runs-more, runs-all}
+use borrow.Author.Needs.{needs}
+use Rattle.graph.proofs.arc_rows.Statement.{statement}
+use Rattle.graph.proofs.arc_rows.Tie as tie
+
+abbrev Inv-loop : tie.InvT-loop
+Inv-loop hist n runs dep firsts lasts arc₀ masks r₀ arc r = (r ≤ runs) × GainedBy ArcByRuns (take n hist) dep firsts lasts n r arc₀ arc
+
+abbrev μ-loop : tie.MeasureT-loop
+μ-loop hist n runs dep firsts lasts arc₀ masks r₀ arc r = runs - r
+
+run-masks-requires : tie.Need-run-masks-requires Inv-loop μ-loop
+run-masks-requires c κs = search needs
+
+loop-holds : tie.Need-loop-holds Inv-loop μ-loop
+loop-holds c = (search needs, search runs-none)
+
+row-of-requires : tie.Need-row-of-requires Inv-loop μ-loop
+row-of-requires c κs = search needs
+
+arcs-from-requires : tie.Need-arcs-from-requires Inv-loop μ-loop
+arcs-from-requires c κs = search mask-input
+
+add-r : tie.Need-add-r Inv-loop μ-loop
+add-r c = search needs
+
+loop-less : tie.Need-loop-less Inv-loop μ-loop
+loop-less c = search needs
+
+loop-again : tie.Need-loop-again Inv-loop μ-loop
+loop-again c = (search needs, search runs-more)
+
+returns : tie.Need-returns Inv-loop μ-loop
+returns c = search runs-all
+
+pub arc-rows-spec : {M : Type 1} → statement M
+arc-rows-spec =
+    tie.close
+    (tie.spec
+    Inv-loop
+    μ-loop
+    run-masks-requires
+    loop-holds
+    row-of-requires
+    arcs-from-requires
+    add-r
+    loop-less
+    loop-again
+    returns)

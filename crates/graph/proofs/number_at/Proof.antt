@@ -1,0 +1,17 @@
+-- What the table has is below 16.
+use Rattle.graph.proofs.Counting.{number-at}
+use borrow.Author.Needs.{needs}
+use Rattle.graph.proofs.number_at.Statement.{statement}
+use Rattle.graph.proofs.number_at.Tie as tie
+
+element-copy-out-wide : tie.Need-element-copy-out-wide
+element-copy-out-wide c = search needs
+
+wide-requires : tie.Need-wide-requires
+wide-requires c κs = search needs
+
+returns : tie.Need-returns
+returns c = search number-at
+
+pub number-at-spec : {M : Type 1} → statement M
+number-at-spec = tie.close (tie.spec element-copy-out-wide wide-requires returns)

@@ -1,0 +1,96 @@
+-- Before each turn the rows of the places below p are right. The step before p in its run has its row already.
+use Prim.Native.Nat.{_≤_, _-_}
+use mathlib.Core.Logic.{⊎-elim}
+use lib.ListN.{take}
+use Rattle.theory.specs.Graph.{FirstOf}
+use Rattle.graph.specs.Tables.{EachBy}
+use Rattle.graph.specs.Units.{Kept}
+use Rattle.graph.proofs.UnitRows.{firsts-none, firsts-all, firsts-own, firsts-inherit, first-index, first-rows, kept-none, kept-row}
+use borrow.Author.Needs.{needs}
+use Rattle.graph.proofs.unit_firsts.Statement.{statement}
+use Rattle.graph.proofs.unit_firsts.Tie as tie
+
+abbrev Inv-loop : tie.InvT-loop
+Inv-loop hist n ordinals places cuts t₀ p₀ t p = (p ≤ n) × EachBy FirstOf cuts (take n hist) 0 p t × Kept n t₀ t
+
+abbrev μ-loop : tie.MeasureT-loop
+μ-loop hist n ordinals places cuts t₀ p₀ t p = n - p
+
+loop-holds : tie.Need-loop-holds Inv-loop μ-loop
+loop-holds c = (search needs, search firsts-none, search kept-none)
+
+number-at-requires : tie.Need-number-at-requires Inv-loop μ-loop
+number-at-requires c κs = search needs
+
+element-copy-out-wide : tie.Need-element-copy-out-wide Inv-loop μ-loop
+element-copy-out-wide c = search needs
+
+wide-requires : tie.Need-wide-requires Inv-loop μ-loop
+wide-requires c κs = search needs
+
+own-requires : tie.Need-own-requires Inv-loop μ-loop
+own-requires c κs = search needs
+
+mul-wide : tie.Need-mul-wide Inv-loop μ-loop
+mul-wide c = search needs
+
+add-wide : tie.Need-add-wide Inv-loop μ-loop
+add-wide c = search needs
+
+sub-wide : tie.Need-sub-wide Inv-loop μ-loop
+sub-wide c = search needs
+
+element-copy-out-wide-2 : tie.Need-element-copy-out-wide-2 Inv-loop μ-loop
+element-copy-out-wide-2 c = search first-index
+
+wide-requires-2 : tie.Need-wide-requires-2 Inv-loop μ-loop
+wide-requires-2 c κs = search needs
+
+mul-inherit : tie.Need-mul-inherit Inv-loop μ-loop
+mul-inherit c = search needs
+
+mul-inherit-2 : tie.Need-mul-inherit-2 Inv-loop μ-loop
+mul-inherit-2 c = search needs
+
+add-inherit : tie.Need-add-inherit Inv-loop μ-loop
+add-inherit c = search needs
+
+inherit-requires : tie.Need-inherit-requires Inv-loop μ-loop
+inherit-requires c κs = search first-rows
+
+add-p : tie.Need-add-p Inv-loop μ-loop
+add-p c = search needs
+
+loop-less : tie.Need-loop-less Inv-loop μ-loop
+loop-less c = search needs
+
+loop-again : tie.Need-loop-again Inv-loop μ-loop
+loop-again c = (search needs, ⊎-elim (λ w. search firsts-own) (λ w. search firsts-inherit) (c .if1 .came), ⊎-elim (λ w. search kept-row) (λ w. search kept-row) (c .if1 .came))
+
+returns : tie.Need-returns Inv-loop μ-loop
+returns c = (search firsts-all, search needs)
+
+pub unit-firsts-spec : {M : Type 1} → statement M
+unit-firsts-spec =
+    tie.close
+    (tie.spec
+    Inv-loop
+    μ-loop
+    loop-holds
+    number-at-requires
+    element-copy-out-wide
+    wide-requires
+    own-requires
+    mul-wide
+    add-wide
+    sub-wide
+    element-copy-out-wide-2
+    wide-requires-2
+    mul-inherit
+    mul-inherit-2
+    add-inherit
+    inherit-requires
+    add-p
+    loop-less
+    loop-again
+    returns)

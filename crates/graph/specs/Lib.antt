@@ -1,0 +1,7 @@
+-- The root of the specs of `graph`. What its public calls promise: Marks, Units. Dependence: the rows after each step of the history.
+-- Tables and Arcs are no part of the statement: what the functions inside promise one another.
+pub mod Marks
+pub mod Units
+pub mod Dependence
+pub mod Tables
+pub mod Arcs

@@ -1,0 +1,10 @@
+-- What a table of bits says of the places of a history.
+use Prim.Native.Nat.{ℕ, _<_}
+use mathlib.Core.Path.{_≡_}
+use mathlib.Core.List.{List}
+use Rattle.bits.specs.Table.{row-bits, rows, bit-at}
+
+-- bit x of row y is set exactly where R x y
+pub record Marks (R : ℕ → ℕ → Type 0) (t : List ℕ) : Type 0 where
+  pub sound : (x y : ℕ) → x < row-bits → y < rows → bit-at t y x ≡ 1 → R x y
+  pub complete : (x y : ℕ) → x < row-bits → y < rows → R x y → bit-at t y x ≡ 1

@@ -1,0 +1,471 @@
+// The graph of a history: dependence rows, units and arc rows.
+use bits::Found;
+use bits::Row;
+use bits::Table;
+use book::Book;
+ghost use mathlib.Core.Path.{_≡_};
+ghost use mathlib.Core.Logic.{_≢_};
+ghost use Prim.Native.Nat.{_+_, _*_, _<_, _≤_};
+ghost use lib.ListN.{length, take};
+ghost use Rattle.theory.specs.Relative.{Depends};
+ghost use Rattle.theory.specs.Graph.{FirstOf, LastOf, Arc};
+ghost use Rattle.book.specs.Format.{sum};
+ghost use Rattle.book.specs.Book.{Valid, contents-of};
+ghost use Rattle.book.specs.Meaning.{conflict-of, unit-of};
+ghost use Rattle.graph.specs.Marks.{Marks};
+ghost use Rattle.graph.specs.Units.{Kept, UnitTables};
+ghost use Rattle.graph.specs.Dependence.{StepsRead, StepRead};
+ghost use Rattle.graph.specs.Tables.{Says, Small, HistoryOf, Declared, NumberAt, Starts, Room, StepsByPlace, Link, Fresh};
+ghost use Rattle.graph.specs.Tables.{Numbering, Counts, EachBy, RowRoom, RowSet, inherited};
+ghost use Rattle.graph.specs.Arcs.{ArcBy, ArcByPlaces, InRun, TablesOf, GainedBy, ArcRows, ArcInput, Rowed};
+ghost use Rattle.bits.specs.Table.{bit-at, intersection};
+ghost use Rattle.bits.specs.Last.{LastAt};
+
+// For each place p and each run o a place, at p * 16 + o.
+pub type Units = [u8; 2048];
+
+fn wide(x: u8) -> usize
+    ensures { λ r. ⌜ (r ≡ x) × (r < 256) ⌝ }
+{
+    x as usize
+}
+
+// These do nothing: what owning an array tells of its length, told to a function that has it by `&mut`.
+fn sized_by_run(t: [u8; 16])
+    ensures { λ r. ⌜ length t ≡ 16 ⌝ }
+{}
+
+fn sized_by_place(t: [u8; 128])
+    ensures { λ r. ⌜ length t ≡ 128 ⌝ }
+{}
+
+fn sized_positions(t: [u16; 128])
+    ensures { λ r. ⌜ length t ≡ 128 ⌝ }
+{}
+
+fn sized_by_step(t: [u8; 512])
+    ensures { λ r. ⌜ length t ≡ 512 ⌝ }
+{}
+
+fn sized_units(t: Units)
+    ensures { λ r. ⌜ length t ≡ 2048 ⌝ }
+{}
+
+// What a table of runs or of kinds has of place p.
+fn number_at(t: &[u8; 128], p: usize) -> usize
+    requires { ⌜ (p < 128) × Small 16 (now t) ⌝ }
+    ensures { λ r. ⌜ NumberAt (now (t .entry)) p 16 r ⌝ }
+{
+    wide(t[p])
+}
+
+// Where each run's steps begin among the book's steps.
+fn starts(lens: &[u8; 16], t: &mut [u8; 16])
+    requires { ⌜ sum (now lens) ≤ 128 ⌝ }
+    ensures { λ r. ⌜ Starts (now (lens .entry)) (now (t .exit)) ⌝ }
+{
+    let mut s: u8 = 0;
+    let mut r = 0;
+    while r < 16 {
+        sized_by_run(*t);
+        t[r] = s;
+        s = s + lens[r];
+        r += 1;
+    }
+}
+
+// The kind and the position of each place's step. `next` has the next step of each run.
+fn by_place(
+    hist: &[u8; 128],
+    n: usize,
+    kinds: &[u8; 128],
+    positions: &[u16; 128],
+    next: &mut [u8; 16],
+    kinds_at: &mut [u8; 128],
+    positions_at: &mut [u16; 128],
+)
+    requires { ⌜ HistoryOf (now hist) n × Room (take n (now hist)) (now next) × Small 16 (now kinds) × Small 16 (now «kinds_at») ⌝ }
+    ensures { λ r. ⌜ StepsByPlace (take n (now (hist .entry))) (now (next .entry)) (now (kinds .entry)) (now (positions .entry)) (now («kinds_at» .exit)) (now («positions_at» .exit)) n ⌝ }
+{
+    let mut p = 0;
+    while p < n {
+        sized_by_run(*next);
+        sized_by_place(*kinds_at);
+        sized_positions(*positions_at);
+        let r = number_at(hist, p);
+        let i = next[r];
+        let s = wide(i);
+        kinds_at[p] = kinds[s];
+        positions_at[p] = positions[s];
+        next[r] = i + 1;
+        p += 1;
+    }
+}
+
+// Whether place q is linked to p: of one run, or at one position with kinds that are a listed pair.
+fn linked(
+    hist: &[u8; 128],
+    kinds: &[u8; 128],
+    positions: &[u16; 128],
+    pairs: &[u8; 256],
+    p: usize,
+    q: usize,
+) -> bool
+    requires { ⌜ (p < 128) × (q < 128) × Small 16 (now kinds) ⌝ }
+    ensures { λ r. ⌜ Says (Link (now (hist .entry)) (now (kinds .entry)) (now (positions .entry)) (now (pairs .entry)) p q) r ⌝ }
+{
+    if hist[p] == hist[q] {
+        return true;
+    }
+    if positions[p] != positions[q] {
+        return false;
+    }
+    let a = number_at(kinds, p);
+    let b = number_at(kinds, q);
+    if pairs[a * 16 + b] != 0 {
+        return true;
+    }
+    pairs[b * 16 + a] != 0
+}
+
+// Whether place q is linked to p and its row does not tell it yet.
+fn fresh(
+    hist: &[u8; 128],
+    kinds: &[u8; 128],
+    positions: &[u16; 128],
+    pairs: &[u8; 256],
+    dep: &Table,
+    p: usize,
+    q: usize,
+) -> bool
+    requires { ⌜ (p < 128) × (q < 128) × Small 16 (now kinds) ⌝ }
+    ensures { λ r. ⌜ Fresh (Link (now (hist .entry)) (now (kinds .entry)) (now (positions .entry)) (now (pairs .entry))) (now (dep .entry)) p q r ⌝ }
+{
+    if bits::marked(dep, q, p) {
+        return false;
+    }
+    linked(hist, kinds, positions, pairs, p, q)
+}
+
+// The row of place q, from the rows of the places before it. A place that the row tells already brings nothing new.
+fn dependence_row(
+    hist: &[u8; 128],
+    kinds: &[u8; 128],
+    positions: &[u16; 128],
+    pairs: &[u8; 256],
+    q: usize,
+    dep: &mut Table,
+)
+    requires { ⌜ (q < 128) × Small 16 (now kinds) ⌝ }
+    ensures { λ r. ⌜ StepRead (Link (now (hist .entry)) (now (kinds .entry)) (now (positions .entry)) (now (pairs .entry))) (now (dep .entry)) (now (dep .exit)) q ⌝ }
+{
+    let mut p = q;
+    while p > 0 {
+        p -= 1;
+        if fresh(hist, kinds, positions, pairs, dep, p, q) {
+            bits::join(dep, q, p);
+            bits::mark(dep, q, p);
+        }
+    }
+}
+
+// The rows of the first n places, in one pass.
+fn dependence_rows(
+    hist: &[u8; 128],
+    kinds: &[u8; 128],
+    positions: &[u16; 128],
+    pairs: &[u8; 256],
+    n: usize,
+    dep: &mut Table,
+)
+    requires { ⌜ (n ≤ 128) × Small 16 (now kinds) ⌝ }
+    ensures { λ r. ⌜ StepsRead (Link (now (hist .entry)) (now (kinds .entry)) (now (positions .entry)) (now (pairs .entry))) (now (dep .exit)) n ⌝ }
+{
+    *dep = [0; bits::TABLE_WORDS];
+    let mut q = 0;
+    while q < n {
+        dependence_row(hist, kinds, positions, pairs, q, dep);
+        q += 1;
+    }
+}
+
+// The dependence table of the book's history: bit p of row q where q depends on p.
+pub fn dependences(b: Book, dep: &mut Table)
+    requires { ⌜ Valid b ⌝ }
+    ensures { λ r. ⌜ Marks (Depends (conflict-of (contents-of b)) (contents-of b .history)) (now (dep .exit)) ⌝ }
+{
+    let hist = b.history;
+    let lens = b.lens;
+    let kinds = b.kinds;
+    let positions = b.positions;
+    let pairs = b.pairs;
+    let n = b.done;
+    let mut next = [0u8; 16];
+    starts(&lens, &mut next);
+    let mut kinds_at = [0u8; 128];
+    let mut positions_at = [0u16; 128];
+    by_place(
+        &hist,
+        n,
+        &kinds,
+        &positions,
+        &mut next,
+        &mut kinds_at,
+        &mut positions_at,
+    );
+    dependence_rows(&hist, &kinds_at, &positions_at, &pairs, n, dep);
+}
+
+// The ordinal of each place, and the place of each step, of run r and ordinal i at r * 32 + i.
+fn number(hist: &[u8; 128], n: usize, ordinals: &mut [u8; 128], places: &mut [u8; 512])
+    requires { ⌜ HistoryOf (now hist) n ⌝ }
+    ensures { λ r. ⌜ Numbering (take n (now (hist .entry))) (now (ordinals .exit)) (now (places .exit)) ⌝ }
+{
+    let mut counts = [0u8; 16];
+    let mut p = 0;
+    while p < n {
+        sized_by_place(*ordinals);
+        sized_by_step(*places);
+        let r = number_at(hist, p);
+        let i = counts[r];
+        ordinals[p] = i;
+        let j = wide(i);
+        places[r * 32 + j] = p as u8;
+        counts[r] = i + 1;
+        p += 1;
+    }
+}
+
+// Sets the row of p to p itself.
+fn own(t: &mut Units, p: usize)
+    requires { ⌜ p < 128 ⌝ }
+    ensures { λ r. ⌜ RowSet (now (t .entry)) (now (t .exit)) p (λ o. p) 16 ⌝ }
+{
+    let mut o = 0;
+    while o < 16 {
+        sized_units(*t);
+        t[p * 16 + o] = p as u8;
+        o += 1;
+    }
+}
+
+// Sets the row of p to the row of the step next to it, but for the runs that see a cut between the two to p itself.
+fn inherit(cuts: &[u8; 8192], at: usize, t: &mut Units, p: usize, from: usize)
+    requires { ⌜ RowRoom at p from ⌝ }
+    ensures { λ r. ⌜ RowSet (now (t .entry)) (now (t .exit)) p (inherited (now (cuts .entry)) at (now (t .entry)) p from) 16 ⌝ }
+{
+    let mut o = 0;
+    while o < 16 {
+        sized_units(*t);
+        if cuts[at + o] == 0 {
+            t[p * 16 + o] = t[from * 16 + o];
+        } else {
+            t[p * 16 + o] = p as u8;
+        }
+        o += 1;
+    }
+}
+
+// The first place of each unit: a step's own, or that of the step before it.
+fn unit_firsts(
+    hist: &[u8; 128],
+    n: usize,
+    ordinals: &[u8; 128],
+    places: &[u8; 512],
+    cuts: &[u8; 8192],
+    t: &mut Units,
+)
+    requires { ⌜ HistoryOf (now hist) n × Numbering (take n (now hist)) (now ordinals) (now places) ⌝ }
+    ensures { λ r. ⌜ EachBy FirstOf (now (cuts .entry)) (take n (now (hist .entry))) 0 n (now (t .exit)) × Kept n (now (t .entry)) (now (t .exit)) ⌝ }
+{
+    let mut p = 0;
+    while p < n {
+        let r = number_at(hist, p);
+        let i = wide(ordinals[p]);
+        if i == 0 {
+            own(t, p);
+        } else {
+            let from = wide(places[r * 32 + i - 1]);
+            inherit(cuts, r * 512 + i * 16, t, p, from);
+        }
+        p += 1;
+    }
+}
+
+// The last place of each unit: a step's own, or that of the step after it.
+fn unit_lasts(
+    hist: &[u8; 128],
+    n: usize,
+    ordinals: &[u8; 128],
+    places: &[u8; 512],
+    counts: &[u8; 16],
+    cuts: &[u8; 8192],
+    t: &mut Units,
+)
+    requires { ⌜ HistoryOf (now hist) n × Numbering (take n (now hist)) (now ordinals) (now places) × Counts (take n (now hist)) (now counts) ⌝ }
+    ensures { λ r. ⌜ EachBy LastOf (now (cuts .entry)) (take n (now (hist .entry))) 0 n (now (t .exit)) × Kept n (now (t .entry)) (now (t .exit)) ⌝ }
+{
+    let mut p = n;
+    while p > 0 {
+        p -= 1;
+        let r = number_at(hist, p);
+        let i = wide(ordinals[p]) + 1;
+        if i < wide(counts[r]) {
+            let from = wide(places[r * 32 + i]);
+            inherit(cuts, r * 512 + i * 16, t, p, from);
+        } else {
+            own(t, p);
+        }
+    }
+}
+
+// The first and the last place of each place's unit, as seen by each run.
+pub fn units(b: Book, firsts: &mut Units, lasts: &mut Units)
+    requires { ⌜ Valid b ⌝ }
+    ensures { λ r. ⌜ UnitTables (unit-of (contents-of b)) (contents-of b .history) (now (firsts .entry)) (now (firsts .exit)) (now (lasts .entry)) (now (lasts .exit)) ⌝ }
+{
+    let hist = b.history;
+    let dones = b.dones;
+    let n = b.done;
+    let mut ordinals = [0u8; 128];
+    let mut places = [0u8; 512];
+    number(&hist, n, &mut ordinals, &mut places);
+    unit_firsts(&hist, n, &ordinals, &places, &b.cuts, firsts);
+    unit_lasts(&hist, n, &ordinals, &places, &dones, &b.cuts, lasts);
+}
+
+// The places of each run: bit p of row r where p is a place of r.
+fn run_masks(hist: &[u8; 128], n: usize, masks: &mut Table)
+    requires { ⌜ HistoryOf (now hist) n ⌝ }
+    ensures { λ r. ⌜ Marks (InRun (take n (now (hist .entry))) n) (now (masks .exit)) ⌝ }
+{
+    *masks = [0; bits::TABLE_WORDS];
+    let mut p = 0;
+    while p < n {
+        let r = number_at(hist, p);
+        bits::mark(masks, r, p);
+        p += 1;
+    }
+}
+
+// What a table of units has of place p and run o.
+fn place_in(t: &Units, n: usize, p: usize, o: usize) -> usize
+    requires { ⌜ Rowed n (now t) × (p < n) × (n ≤ 128) × (o < 16) ⌝ }
+    ensures { λ r. ⌜ NumberAt (now (t .entry)) (p * 16 + o) 128 r ⌝ }
+{
+    wide(t[p * 16 + o])
+}
+
+// The arcs that come of what place q, of run s, depends on in another run r, whose places the mask has; l is the last such place.
+// D: from each to q. F: from the last place of l's unit to q. B: from each to the first place of q's unit.
+fn arcs_across(
+    hist: &[u8; 128],
+    n: usize,
+    dep: &Table,
+    firsts: &Units,
+    lasts: &Units,
+    mask: &Row,
+    r: usize,
+    q: usize,
+    s: usize,
+    l: usize,
+    arc: &mut Table,
+)
+    requires { ⌜ ArcInput (now hist) n (now dep) (now firsts) (now lasts) (now mask) r × (q < n) × NumberAt (now hist) q 16 s × (r ≢ s) × LastAt (intersection (bit-at (now dep) q) (bit-at (now mask) 0)) l ⌝ }
+    ensures { λ _. ⌜ GainedBy ArcBy (take n (now (hist .entry))) (now (dep .entry)) (now (firsts .entry)) (now (lasts .entry)) r q (now (arc .entry)) (now (arc .exit)) ⌝ }
+{
+    let e = place_in(lasts, n, l, s);
+    let f = place_in(firsts, n, q, r);
+    bits::mark(arc, q, e);
+    bits::join_within(arc, q, dep, q, mask);
+    bits::join_within(arc, f, dep, q, mask);
+}
+
+// The arcs that come of what place q depends on in run r. I: from the last, if r is q's run.
+fn arcs_between(
+    hist: &[u8; 128],
+    n: usize,
+    dep: &Table,
+    firsts: &Units,
+    lasts: &Units,
+    mask: &Row,
+    r: usize,
+    q: usize,
+    arc: &mut Table,
+)
+    requires { ⌜ ArcInput (now hist) n (now dep) (now firsts) (now lasts) (now mask) r × (q < n) ⌝ }
+    ensures { λ _. ⌜ GainedBy ArcBy (take n (now (hist .entry))) (now (dep .entry)) (now (firsts .entry)) (now (lasts .entry)) r q (now (arc .entry)) (now (arc .exit)) ⌝ }
+{
+    match bits::last_within(dep, q, mask) {
+        Found::At(l) => {
+            let s = number_at(hist, q);
+            if r == s {
+                bits::mark(arc, q, l);
+            } else {
+                arcs_across(hist, n, dep, firsts, lasts, mask, r, q, s, l, arc);
+            }
+        }
+        Found::Nothing => {}
+    }
+}
+
+// The arcs that come of what any place depends on in run r.
+fn arcs_from(
+    hist: &[u8; 128],
+    n: usize,
+    dep: &Table,
+    firsts: &Units,
+    lasts: &Units,
+    mask: &Row,
+    r: usize,
+    arc: &mut Table,
+)
+    requires { ⌜ ArcInput (now hist) n (now dep) (now firsts) (now lasts) (now mask) r ⌝ }
+    ensures { λ _. ⌜ GainedBy ArcByPlaces (take n (now (hist .entry))) (now (dep .entry)) (now (firsts .entry)) (now (lasts .entry)) r n (now (arc .entry)) (now (arc .exit)) ⌝ }
+{
+    let mut q = 0;
+    while q < n {
+        arcs_between(hist, n, dep, firsts, lasts, mask, r, q, arc);
+        q += 1;
+    }
+}
+
+// The arc rows, run after run.
+fn arc_rows(
+    hist: &[u8; 128],
+    n: usize,
+    runs: usize,
+    dep: &Table,
+    firsts: &Units,
+    lasts: &Units,
+    arc: &mut Table,
+)
+    requires { ⌜ HistoryOf (now hist) n × Declared (now hist) n runs × TablesOf (take n (now hist)) (now dep) (now firsts) (now lasts) ⌝ }
+    ensures { λ _. ⌜ ArcRows (take n (now (hist .entry))) (now (dep .entry)) (now (firsts .entry)) (now (lasts .entry)) (now (arc .exit)) ⌝ }
+{
+    let mut masks = [0; bits::TABLE_WORDS];
+    run_masks(hist, n, &mut masks);
+    *arc = [0; bits::TABLE_WORDS];
+    let mut r = 0;
+    while r < runs {
+        let mask = bits::row_of(&masks, r);
+        arcs_from(hist, n, dep, firsts, lasts, &mask, r, arc);
+        r += 1;
+    }
+}
+
+// The arc table of the book's history: bit x of row y where an arc leads from x to y.
+pub fn arcs(b: Book, arc: &mut Table)
+    requires { ⌜ Valid b ⌝ }
+    ensures { λ r. ⌜ Marks (Arc (conflict-of (contents-of b)) (unit-of (contents-of b)) (contents-of b .history)) (now (arc .exit)) ⌝ }
+{
+    let mut dep = [0; bits::TABLE_WORDS];
+    dependences(b, &mut dep);
+    let mut firsts = [0u8; 2048];
+    let mut lasts = [0u8; 2048];
+    units(b, &mut firsts, &mut lasts);
+    let hist = b.history;
+    let n = b.done;
+    let runs = b.runs;
+    arc_rows(&hist, n, runs, &dep, &firsts, &lasts, arc);
+}

@@ -1,0 +1,41 @@
+-- What a verdict says of a history, of the order buffer and of the cycle buffer (document 01, "Judge").
+use Prim.Native.Nat.{ℕ}
+use mathlib.Core.Path.{_≡_}
+use mathlib.Core.Bool.{Bool}
+use mathlib.Core.List.{List, _++_}
+use lib.ListN.{length, drop}
+use Rattle.theory.specs.Relative.{RelativelySerialOrder, RelativelySerializable}
+use Rattle.theory.specs.Graph.{Cycle, Greedy}
+use Rattle.theory.proofs.Greedy.{turns}
+use Rattle.judge.specs.declared.Verdict.{Verdict}
+use Rattle.judge.specs.declared.Verdict.the-variants.{Refused, Passed, Tangled}
+
+-- the run numbers of the order which at each turn takes the smallest place not yet taken whose arc sources are all taken
+abbrev pub smallest-first : (ℕ → ℕ → ℕ → ℕ → Bool) → (ℕ → ℕ → ℕ → ℕ) → List ℕ → List ℕ
+smallest-first conflict unit h = turns conflict unit h (length h)
+
+-- order and cycle are the buffers before the call, order′ and cycle′ after it
+module _ (conflict : ℕ → ℕ → ℕ → ℕ → Bool) (unit : ℕ → ℕ → ℕ → ℕ) (h order order′ cycle cycle′ : List ℕ) where
+  -- 01: the order buffer begins with that order; the count is the number of done steps; all else is unchanged
+  pub record PassedAs (count : ℕ) : Type 0 where
+    pub serializable : RelativelySerializable conflict unit h
+    pub greedy : Greedy conflict unit h (smallest-first conflict unit h)
+    pub evidence : RelativelySerialOrder conflict unit h (smallest-first conflict unit h)
+    pub count-is : count ≡ length h
+    pub order-is : order′ ≡ smallest-first conflict unit h ++ drop (length h) order
+    pub cycle-kept : cycle′ ≡ cycle
+
+  -- 01: the cycle buffer begins with a cycle, one byte a place, and the count is its length; all else is unchanged
+  pub record TangledAs (count : ℕ) : Type 0 where
+    pub not-serializable : ¬ RelativelySerializable conflict unit h
+    pub places : List ℕ
+    pub evidence : Cycle conflict unit h places
+    pub count-is : count ≡ length places
+    pub cycle-is : cycle′ ≡ places ++ drop (length places) cycle
+    pub order-kept : order′ ≡ order
+
+  -- a history that was read is never refused
+  abbrev pub JudgedAs : Verdict → ℕ → Type 0
+  JudgedAs (Refused cause place) count = ⊥
+  JudgedAs Passed count = PassedAs count
+  JudgedAs Tangled count = TangledAs count

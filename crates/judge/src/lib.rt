@@ -1,0 +1,262 @@
+// The judge: the order that takes the smallest ready place at each turn, or a cycle, in buffers that the caller lends.
+use bits::Found;
+use bits::Row;
+use bits::Table;
+use book::Answer;
+use book::Book;
+use book::Cause;
+ghost use mathlib.Core.Path.{_≡_};
+ghost use Prim.Native.Nat.{_+_, _<_, _≤_};
+ghost use lib.ListN.{length, take, drop};
+ghost use Rattle.bits.specs.Table.{row-bits};
+ghost use Rattle.book.specs.Format.{step-limit};
+ghost use Rattle.book.specs.Meaning.{conflict-of, unit-of};
+ghost use Rattle.book.specs.Book.{contents-of, Valid};
+ghost use Rattle.judge.specs.Judged.{JudgedAs};
+ghost use Rattle.judge.specs.Judge.{BytesJudged};
+ghost use Rattle.judge.specs.Front.{front-of};
+ghost use Rattle.judge.specs.declared.Verdict.the-variants.{Refused};
+ghost use Rattle.judge.specs.Inner.{Answers, ReadyIn, AllTaken, FirstUntaken, FirstReady, Stored, TurnsTaken, Stuck, CycleIn, Copied, Graph, JudgedArcs};
+
+// Refused: the cause and the place.
+pub enum Verdict {
+    Refused(Cause, usize),
+    Passed,
+    Tangled,
+}
+
+// The verdict, and how many bytes of its buffer are filled: the done steps if passed, the cycle's length if tangled, 0 if refused.
+pub struct Judgement {
+    pub verdict: Verdict,
+    pub count: usize,
+}
+
+// As many places as a history has at most.
+const PLACES: usize = Book::STEPS;
+
+// The turns so far: how many, the run numbers of the places taken, in that order, and the set of these places.
+struct Turns {
+    count: usize,
+    order: [u8; PLACES],
+    taken: Row,
+}
+
+fn wide(x: u16) -> usize
+    ensures { λ r. ⌜ r ≡ x ⌝ }
+{
+    x as usize
+}
+
+// Whether p is not taken and all sources of its arcs are.
+fn is_ready(arc: &Table, taken: &Row, p: usize) -> bool
+    requires { ⌜ p < row-bits ⌝ }
+    ensures { λ r. ⌜ Answers (ReadyIn (now (arc .entry)) (now (taken .entry)) p) r ⌝ }
+{
+    if bits::has(taken, p) {
+        return false;
+    }
+    bits::within(arc, p, taken)
+}
+
+// The smallest place that is not taken, or n; those below `from` are taken.
+fn untaken(taken: &Row, from: usize, n: usize) -> usize
+    requires { ⌜ (n ≤ row-bits) × (from ≤ n) × AllTaken (now taken) from ⌝ }
+    ensures { λ r. ⌜ FirstUntaken (now (taken .entry)) n r ⌝ }
+{
+    let mut p = from;
+    while p < n {
+        if bits::has(taken, p) {
+            p += 1;
+        } else {
+            return p;
+        }
+    }
+    p
+}
+
+// The smallest ready place; those below `from` are taken.
+fn ready(arc: &Table, taken: &Row, from: usize, n: usize) -> Found
+    requires { ⌜ (n ≤ row-bits) × (from ≤ n) × AllTaken (now taken) from ⌝ }
+    ensures { λ r. ⌜ FirstReady (now (arc .entry)) (now (taken .entry)) n r ⌝ }
+{
+    let mut p = from;
+    while p < n {
+        if is_ready(arc, taken, p) {
+            return Found::At(p);
+        }
+        p += 1;
+    }
+    Found::Nothing
+}
+
+// Turn by turn the smallest ready place, as far as it goes.
+fn greedy(history: &[u8; PLACES], n: usize, arc: &Table) -> Turns
+    requires { ⌜ Stored (now history) n ⌝ }
+    ensures { λ r. ⌜ TurnsTaken (now (history .entry)) n (now (arc .entry)) r ⌝ }
+{
+    let mut order = [0u8; PLACES];
+    let mut taken = [0u64; bits::ROW_WORDS];
+    let mut from = 0;
+    let mut count = 0;
+    while count < n {
+        match ready(arc, &taken, from, n) {
+            Found::At(p) => {
+                order[count] = history[p];
+                bits::add(&mut taken, p);
+                from = untaken(&taken, from, n);
+                count += 1;
+            }
+            Found::Nothing => {
+                return Turns {
+                    count,
+                    order,
+                    taken,
+                };
+            }
+        }
+    }
+    Turns {
+        count,
+        order,
+        taken,
+    }
+}
+
+// Copies the bytes of src from `at` on, count of them, to the front of out.
+fn copy_part(src: &[u8; PLACES], at: usize, count: usize, out: &mut [u8])
+    requires { ⌜ (length (now src) ≡ step-limit) × (at + count ≤ step-limit) × (count ≤ length (now out)) ⌝ }
+    ensures { λ _. ⌜ Copied (drop at (now (src .entry))) (now (out .entry)) (now (out .exit)) count ⌝ }
+{
+    let mut i = 0;
+    while i < count {
+        out[i] = src[at + i];
+        i += 1;
+    }
+}
+
+// A cycle of the arcs, where no place is ready: back from source to source, none of them taken, until a place comes again.
+fn find_cycle(arc: &Table, n: usize, taken: &Row, cycle: &mut [u8]) -> usize
+    requires { ⌜ Stuck (now arc) (now taken) n × (step-limit ≤ length (now cycle)) ⌝ }
+    ensures { λ r. ⌜ CycleIn (now (arc .entry)) n (now (cycle .entry)) (now (cycle .exit)) r ⌝ }
+{
+    // The walk stands at the end of `trail`, its last place first; `seen` has the number of each place on it, from 1.
+    let mut trail = [0u8; PLACES];
+    let mut seen = [0u16; PLACES];
+    let mut v = untaken(taken, 0, n);
+    let mut len = 0;
+    while len < PLACES {
+        len += 1;
+        trail[PLACES - len] = v as u8;
+        seen[v] = len as u16;
+        match bits::first_outside(arc, v, taken) {
+            Found::At(x) => {
+                let s = wide(seen[x]);
+                if s != 0 {
+                    let count = len + 1 - s;
+                    copy_part(&trail, PLACES - len, count, cycle);
+                    return count;
+                }
+                v = x;
+            }
+            // Never: v is not ready.
+            Found::Nothing => {
+                return 0;
+            }
+        }
+    }
+    // Never: the walk has at most n places.
+    0
+}
+
+// The judge of the first n places of a history, whose arcs the table marks.
+fn judge_arcs(
+    history: &[u8; PLACES],
+    n: usize,
+    arc: &Table,
+    order: &mut [u8],
+    cycle: &mut [u8],
+) -> Judgement
+    requires { ⌜ Stored (now history) n × Graph (take n (now history)) (now arc) × (step-limit ≤ length (now order)) × (step-limit ≤ length (now cycle)) ⌝ }
+    ensures { λ r. ⌜ JudgedArcs (take n (now (history .entry))) (now (arc .entry)) (now (order .entry)) (now (order .exit)) (now (cycle .entry)) (now (cycle .exit)) r ⌝ }
+{
+    let t = greedy(history, n, arc);
+    if t.count == n {
+        let turns = t.order;
+        copy_part(&turns, 0, n, order);
+        return Judgement {
+            verdict: Verdict::Passed,
+            count: n,
+        };
+    }
+    let taken = t.taken;
+    let count = find_cycle(arc, n, &taken, cycle);
+    Judgement {
+        verdict: Verdict::Tangled,
+        count,
+    }
+}
+
+// The judge of a valid book's history.
+pub fn judge_book(b: Book, order: &mut [u8], cycle: &mut [u8]) -> Judgement
+    requires { ⌜ Valid b × (step-limit ≤ length (now order)) × (step-limit ≤ length (now cycle)) ⌝ }
+    ensures { λ r. ⌜ JudgedAs (conflict-of (contents-of b)) (unit-of (contents-of b)) (contents-of b .history) (now (order .entry)) (now (order .exit)) (now (cycle .entry)) (now (cycle .exit)) (r .verdict) (r .count) ⌝ }
+{
+    let mut arc = [0u64; bits::TABLE_WORDS];
+    graph::arcs(b, &mut arc);
+    let history = b.history;
+    judge_arcs(&history, b.done, &arc, order, cycle)
+}
+
+// A refusal, with nothing filled.
+fn refused(cause: Cause, place: usize) -> Judgement
+    ensures { λ r. ⌜ r ≡ record { verdict = Refused cause place; count = 0 } ⌝ }
+{
+    Judgement {
+        verdict: Verdict::Refused(cause, place),
+        count: 0,
+    }
+}
+
+// The judge of a book's bytes. Both buffers have at least 128 bytes, or the judge refuses.
+pub fn judge(s: &[u8], order: &mut [u8], cycle: &mut [u8]) -> Judgement
+    ensures { λ r. ⌜ BytesJudged (now (order .entry)) (now (order .exit)) (now (cycle .entry)) (now (cycle .exit)) (now (s .entry)) r ⌝ }
+{
+    if order.len() < PLACES {
+        return refused(Cause::JudgeBufferShort, 0);
+    }
+    if cycle.len() < PLACES {
+        return refused(Cause::JudgeBufferShort, 0);
+    }
+    let reading = book::read(s);
+    let answer = reading.answer;
+    match answer {
+        Answer::Refused(cause, place) => refused(cause, place),
+        Answer::Accepted => {
+            let b = reading.book;
+            judge_book(b, order, cycle)
+        }
+    }
+}
+
+// The filled part of the buffer that the verdict used: its first bytes, as many as the count, or an empty part if it is shorter.
+pub fn front<'a>(order: &'a [u8], cycle: &'a [u8], verdict: Verdict, count: usize) -> &'a [u8]
+    ensures { λ r. ⌜ now r ≡ front-of verdict count (now (order .entry)) (now (cycle .entry)) ⌝ }
+{
+    match verdict {
+        Verdict::Passed => {
+            if count <= order.len() {
+                &order[..count]
+            } else {
+                &order[..0]
+            }
+        }
+        Verdict::Tangled => {
+            if count <= cycle.len() {
+                &cycle[..count]
+            } else {
+                &cycle[..0]
+            }
+        }
+        Verdict::Refused(_, _) => &order[..0],
+    }
+}
