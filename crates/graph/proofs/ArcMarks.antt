@@ -19,7 +19,7 @@ use Rattle.theory.proofs.Steps.{dep-lt, dep-inside}
 use Rattle.graph.specs.Marks.{Marks}
 use Rattle.graph.specs.Units.{Each}
 use Rattle.graph.specs.Tables.{HistoryOf, Declared, NumberAt}
-use Rattle.graph.specs.Arcs.{Gained, ArcBy, by-I, by-D, by-F, by-B, ArcByPlaces, ArcByRuns, InRun, TablesOf, GainedBy, ArcRows, ArcInput, Rowed}
+use Rattle.graph.specs.Arcs.{Gained, ArcBy, by-I, by-D, by-F, by-B, Below, ArcByPlaces, ArcByRuns, InRun, TablesOf, GainedBy, ArcRows, ArcInput, Rowed}
 use Rattle.graph.proofs.Counting.{low, clash, below-next, hist-length, hist-run, hist-small}
 use Rattle.graph.proofs.UnitSteps.{own-depends, LastSource, last-own, own-last, last-covers, last-unique, first-unique}
 
@@ -253,44 +253,42 @@ place-at n t p o r a i j e = record { is = e; small = rw e (a .small p o i j) }
 
 -- ---- one place after another, and one run after another
 
+module _ (P : ℕ → ℕ → ℕ → Type 0) where
+  below-none : (t : List ℕ) → Gained (Below P 0) t t
+  below-none t = gained-none t (λ x y k. low (k .index) (k .below))
+
+  below-more : (m : ℕ) {t u v : List ℕ} → Gained (Below P m) t u → Gained (P m) u v → Gained (Below P (m + 1)) t v
+  below-more m g k = gained-more (Below P (m + 1)) g k
+      (λ x y hx c. record { index = c .index; below = omega (arith, c .below); holds = c .holds })
+      (λ x y hx c. record { index = m; below = omega arith; holds = c })
+      (λ x y c. split x y c (below-next (c .index) m (c .below)))
+    where
+      split : (x y : ℕ) (c : Below P (m + 1) x y) → (c .index ≡ m) ⊎ (c .index < m) → Below P m x y ⊎ P m x y
+      split x y c (inl e) = inr (rw e at (c .holds))
+      split x y c (inr l) = inl (record { index = c .index; below = l; holds = c .holds })
+
 module _ (h dep firsts lasts : List ℕ) where
   pub places-none : (r : ℕ) (t : List ℕ) → GainedBy ArcByPlaces h dep firsts lasts r 0 t t
-  places-none r t = record { by = λ a. gained-none t (λ x y k. low (k .q) (k .below)) }
+  places-none r t = record { by = λ a. below-none (ArcBy (a .conflict) (a .unit) h r) t }
 
-  pub places-more : (r q : ℕ) (t u v : List ℕ) → GainedBy ArcByPlaces h dep firsts lasts r q t u → GainedBy ArcBy h dep firsts lasts r q u v → GainedBy ArcByPlaces h dep firsts lasts r (q + 1) t v
-  places-more r q t u v g k = record {
-    by = λ a. gained-more (ArcByPlaces (a .conflict) (a .unit) h r (q + 1)) (g .by a) (k .by a)
-        (λ x y hx c. record { q = c .q; below = omega (arith, c .below); arc = c .arc }) (λ x y hx c. record { q = q; below = omega arith; arc = c }) (split a);
-  }
-    where
-      split : (a : TablesOf h dep firsts lasts) (x y : ℕ) → ArcByPlaces (a .conflict) (a .unit) h r (q + 1) x y → ArcByPlaces (a .conflict) (a .unit) h r q x y ⊎ ArcBy (a .conflict) (a .unit) h r q x y
-      split a x y c = go (below-next (c .q) q (c .below))
-        where
-          go : (c .q ≡ q) ⊎ (c .q < q) → ArcByPlaces (a .conflict) (a .unit) h r q x y ⊎ ArcBy (a .conflict) (a .unit) h r q x y
-          go (inl e) = inr (rw e at (c .arc))
-          go (inr l) = inl (record { q = c .q; below = l; arc = c .arc })
+  pub places-more : (r q : ℕ) (t u v : List ℕ) → GainedBy ArcByPlaces h dep firsts lasts r q t u → GainedBy ArcBy h dep firsts lasts r q u v
+      → GainedBy ArcByPlaces h dep firsts lasts r (q + 1) t v
+  places-more r q t u v g k = record { by = λ a. below-more (ArcBy (a .conflict) (a .unit) h r) q (g .by a) (k .by a) }
 
   pub places-all : (r q n : ℕ) (t u : List ℕ) → GainedBy ArcByPlaces h dep firsts lasts r q t u → q ≤ n → n ≤ q → GainedBy ArcByPlaces h dep firsts lasts r n t u
   places-all r q n t u g a b = let e : q ≡ n = omega arith in rw e at g
 
   pub runs-none : (n : ℕ) (t : List ℕ) → GainedBy ArcByRuns h dep firsts lasts n 0 t t
-  runs-none n t = record { by = λ a. gained-none t (λ x y k. low (k .r) (k .below)) }
+  runs-none n t = record { by = λ a. below-none (λ r. ArcByPlaces (a .conflict) (a .unit) h r n) t }
 
-  pub runs-more : (n r : ℕ) (t u v : List ℕ) → GainedBy ArcByRuns h dep firsts lasts n r t u → GainedBy ArcByPlaces h dep firsts lasts r n u v → GainedBy ArcByRuns h dep firsts lasts n (r + 1) t v
-  runs-more n r t u v g k = record {
-    by = λ a. gained-more (ArcByRuns (a .conflict) (a .unit) h n (r + 1)) (g .by a) (k .by a)
-        (λ x y hx c. record { r = c .r; below = omega (arith, c .below); arcs = c .arcs }) (λ x y hx c. record { r = r; below = omega arith; arcs = c }) (split a);
-  }
-    where
-      split : (a : TablesOf h dep firsts lasts) (x y : ℕ) → ArcByRuns (a .conflict) (a .unit) h n (r + 1) x y → ArcByRuns (a .conflict) (a .unit) h n r x y ⊎ ArcByPlaces (a .conflict) (a .unit) h r n x y
-      split a x y c = go (below-next (c .r) r (c .below))
-        where
-          go : (c .r ≡ r) ⊎ (c .r < r) → ArcByRuns (a .conflict) (a .unit) h n r x y ⊎ ArcByPlaces (a .conflict) (a .unit) h r n x y
-          go (inl e) = inr (rw e at (c .arcs))
-          go (inr l) = inl (record { r = c .r; below = l; arcs = c .arcs })
+  pub runs-more : (n r : ℕ) (t u v : List ℕ) → GainedBy ArcByRuns h dep firsts lasts n r t u → GainedBy ArcByPlaces h dep firsts lasts r n u v
+      → GainedBy ArcByRuns h dep firsts lasts n (r + 1) t v
+  runs-more n r t u v g k = record { by = λ a. below-more (λ r. ArcByPlaces (a .conflict) (a .unit) h r n) r (g .by a) (k .by a) }
 
 -- all runs: every arc, and nothing else
-pub runs-all : (hist : List ℕ) (n : ℕ) (dep firsts lasts : List ℕ) (r m runs : ℕ) (u : List ℕ) → HistoryOf hist n → Declared hist n runs → runs ≤ r → GainedBy ArcByRuns (take n hist) dep firsts lasts n r (replicate m 0) u → ArcRows (take n hist) dep firsts lasts u
+pub runs-all : (hist : List ℕ) (n : ℕ) (dep firsts lasts : List ℕ) (r m runs : ℕ) (u : List ℕ) → HistoryOf hist n → Declared hist n runs → runs ≤ r
+    → GainedBy ArcByRuns (take n hist) dep firsts lasts n r (replicate m 0) u
+    → ArcRows (take n hist) dep firsts lasts u
 runs-all hist n dep firsts lasts r m runs u hs ds l g = record {
   marks = λ a. record {
     sound = λ x y hx hy e. sound-at a x y (g .by a .sound x y hx hy e);
@@ -303,14 +301,18 @@ runs-all hist n dep firsts lasts r m runs u hs ds l g = record {
         let i : k < n = rw (← hist-length hs) ik in
         rw (hist-run hist n k i) (omega (arith, ds .declared k i))
 
-    made : (a : TablesOf (take n hist) dep firsts lasts) (x y q k : ℕ) → q < length (take n hist) → k < length (take n hist) → ArcBy (a .conflict) (a .unit) (take n hist) (run (take n hist) k) q x y → ArcByRuns (a .conflict) (a .unit) (take n hist) n r x y
-    made a x y q k iq ik c = record { r = run (take n hist) k; below = run-below k ik; arcs = record { q = q; below = rw (← hist-length hs) iq; arc = c } }
+    made : (a : TablesOf (take n hist) dep firsts lasts) (x y q k : ℕ) → q < length (take n hist) → k < length (take n hist)
+        → ArcBy (a .conflict) (a .unit) (take n hist) (run (take n hist) k) q x y → ArcByRuns (a .conflict) (a .unit) (take n hist) n r x y
+    made a x y q k iq ik c = record { index = run (take n hist) k; below = run-below k ik; holds = record { index = q; below = rw (← hist-length hs) iq; holds = c } }
+
+    source-inside : (a : TablesOf (take n hist) dep firsts lasts) {p q : ℕ} → ArcD (a .conflict) (take n hist) p q → p < length (take n hist)
+    source-inside a c = omega (arith, dep-lt (a .conflict) (c .depends), dep-inside (a .conflict) (c .depends))
 
     complete-at : (a : TablesOf (take n hist) dep firsts lasts) (x y : ℕ) → Arc (a .conflict) (a .unit) (take n hist) x y → ArcByRuns (a .conflict) (a .unit) (take n hist) n r x y
     complete-at a x y (arc-I c) = made a x y y x (c .inside) (omega (arith, c .before, c .inside)) (by-I refl c refl)
-    complete-at a x y (arc-D c) = made a x y y x (dep-inside (a .conflict) (c .depends)) (omega (arith, dep-lt (a .conflict) (c .depends), dep-inside (a .conflict) (c .depends))) (by-D refl c refl)
-    complete-at a x y (arc-F c) = made a x y y (c .p) (dep-inside (a .conflict) (c .arc .depends)) (omega (arith, dep-lt (a .conflict) (c .arc .depends), dep-inside (a .conflict) (c .arc .depends))) (by-F (c .p) refl (c .arc) (c .last) refl)
-    complete-at a x y (arc-B c) = made a x y (c .q) x (dep-inside (a .conflict) (c .arc .depends)) (omega (arith, dep-lt (a .conflict) (c .arc .depends), dep-inside (a .conflict) (c .arc .depends))) (by-B refl (c .arc) (c .first))
+    complete-at a x y (arc-D c) = made a x y y x (dep-inside (a .conflict) (c .depends)) (source-inside a c) (by-D refl c refl)
+    complete-at a x y (arc-F c) = made a x y y (c .p) (dep-inside (a .conflict) (c .arc .depends)) (source-inside a (c .arc)) (by-F (c .p) refl (c .arc) (c .last) refl)
+    complete-at a x y (arc-B c) = made a x y (c .q) x (dep-inside (a .conflict) (c .arc .depends)) (source-inside a (c .arc)) (by-B refl (c .arc) (c .first))
 
     arc-of : (a : TablesOf (take n hist) dep firsts lasts) (k q x y : ℕ) → ArcBy (a .conflict) (a .unit) (take n hist) k q x y → Arc (a .conflict) (a .unit) (take n hist) x y
     arc-of a k q x y (by-I e c z) = rw z (arc-I c)
@@ -320,7 +322,7 @@ runs-all hist n dep firsts lasts r m runs u hs ds l g = record {
 
     sound-at : (a : TablesOf (take n hist) dep firsts lasts) (x y : ℕ) → (bit-at (replicate m 0) y x ≡ 1) ⊎ ArcByRuns (a .conflict) (a .unit) (take n hist) n r x y → Arc (a .conflict) (a .unit) (take n hist) x y
     sound-at a x y (inl e) = absurd (clash (zeros-bit m y x) e)
-    sound-at a x y (inr k) = arc-of a (k .r) (k .arcs .q) x y (k .arcs .arc)
+    sound-at a x y (inr k) = arc-of a (k .index) (k .holds .index) x y (k .holds .holds)
 
 -- ---- the places of each run
 
@@ -347,7 +349,8 @@ masks-more hist n p r t u i z s w = record {
 pub masks-all : (h : List ℕ) (n p : ℕ) (t : List ℕ) → p ≤ n → n ≤ p → Marks (InRun h p) t → Marks (InRun h n) t
 masks-all h n p t a b w = let e : p ≡ n = omega arith in rw e at w
 
-pub mask-input : (hist : List ℕ) (n : ℕ) (dep firsts lasts masks mask : List ℕ) (r runs : ℕ) → HistoryOf hist n → Declared hist n runs → TablesOf (take n hist) dep firsts lasts → Marks (InRun (take n hist) n) masks → Copied masks r mask → r < runs
+pub mask-input : (hist : List ℕ) (n : ℕ) (dep firsts lasts masks mask : List ℕ) (r runs : ℕ) → HistoryOf hist n → Declared hist n runs → TablesOf (take n hist) dep firsts lasts
+    → Marks (InRun (take n hist) n) masks → Copied masks r mask → r < runs
     → ArcInput hist n dep firsts lasts mask r
 mask-input hist n dep firsts lasts masks mask r runs hs ds a w c hr = record {
   history = hs;

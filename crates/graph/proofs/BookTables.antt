@@ -110,7 +110,8 @@ unit-rises (c ∷ cs) r o i j l = go (eqb (c .of-run) r) (eqb (c .seen-by) o) (d
 unit-next : (xs : List ℕ) (r o i : ℕ) → o < 16 → suc i < 32 → unit (map cut-of xs) r o (suc i) ≡ unit (map cut-of xs) r o i + count xs (r * 512 + suc i * 16 + o)
 unfolding unit
 unit-next [] r o i ho hi = refl
-unit-next (x ∷ xs) r o i ho hi = go (unit (map cut-of xs) r o (suc i)) (unit (map cut-of xs) r o i) (count xs (r * 512 + suc i * 16 + o)) (eq-cases (x / 512) r) (eq-cases (x % 16) o) (ℕ-discrete (x % 512 / 16) (suc i)) (unit-next xs r o i ho hi)
+unit-next (x ∷ xs) r o i ho hi = go (unit (map cut-of xs) r o (suc i)) (unit (map cut-of xs) r o i) (count xs (r * 512 + suc i * 16 + o))
+    (eq-cases (x / 512) r) (eq-cases (x % 16) o) (ℕ-discrete (x % 512 / 16) (suc i)) (unit-next xs r o i ho hi)
   where
     -- the same cuts as before, and x is not the new one
     other : (m n k : ℕ) (u v : Bool) → u ≡ v → x ≢ r * 512 + suc i * 16 + o → m ≡ n + k → suc-if u m ≡ suc-if v n + suc-if (eqb x (r * 512 + suc i * 16 + o)) k
@@ -247,7 +248,9 @@ module _ (b : Book) (v : Valid b) where
           runs-get (lengths-of b) (steps-of b) (run h p) (ordinal h p) in-run
           ∙ ap (λ (x : ℕ). getD (steps-of b) (x + ordinal h p) no-step) (sym start)
           ∙ steps-at-get (take (b .steps) (b .kinds)) (take (b .steps) (b .positions)) (getD starts (run h p) 0 + ordinal h p) sizes
-          ∙ ap₂ (λ (x y : ℕ). record { kind = x; position = y }) (getD-take (b .steps) (b .kinds) (getD starts (run h p) 0 + ordinal h p) 0 in-steps) (getD-take (b .steps) (b .positions) (getD starts (run h p) 0 + ordinal h p) 0 in-steps)
+          ∙ ap₂ (λ (x y : ℕ). record { kind = x; position = y })
+          (getD-take (b .steps) (b .kinds) (getD starts (run h p) 0 + ordinal h p) 0 in-steps)
+          (getD-take (b .steps) (b .positions) (getD starts (run h p) 0 + ordinal h p) 0 in-steps)
         where
           sizes : length (take (b .steps) (b .kinds)) ≡ length (take (b .steps) (b .positions))
           sizes = length-take-le (b .steps) (b .kinds) (omega (arith, v .kinds .long, v .few-steps)) ∙ sym (length-take-le (b .steps) (b .positions) (omega (arith, v .positions .long, v .few-steps)))
@@ -349,7 +352,8 @@ module _ (b : Book) (v : Valid b) where
 
   -- ---- arcs
 
-  unfoldable pub book-tables : (dep firsts firsts′ lasts lasts′ : List ℕ) → Marks (Depends (conflict-of (contents-of b)) (contents-of b .history)) dep → UnitTables (unit-of (contents-of b)) (contents-of b .history) firsts firsts′ lasts lasts′
+  unfoldable pub book-tables : (dep firsts firsts′ lasts lasts′ : List ℕ) → Marks (Depends (conflict-of (contents-of b)) (contents-of b .history)) dep
+      → UnitTables (unit-of (contents-of b)) (contents-of b .history) firsts firsts′ lasts lasts′
       → TablesOf h dep firsts′ lasts′
   unfolding contents-of
   book-tables dep firsts firsts′ lasts lasts′ d u = record {
@@ -361,7 +365,8 @@ module _ (b : Book) (v : Valid b) where
     lasts-are = u .lasts-are;
   }
 
-  pub book-arcs : (dep firsts firsts′ lasts lasts′ arc : List ℕ) → Marks (Depends (conflict-of (contents-of b)) (contents-of b .history)) dep → UnitTables (unit-of (contents-of b)) (contents-of b .history) firsts firsts′ lasts lasts′
+  pub book-arcs : (dep firsts firsts′ lasts lasts′ arc : List ℕ) → Marks (Depends (conflict-of (contents-of b)) (contents-of b .history)) dep
+      → UnitTables (unit-of (contents-of b)) (contents-of b .history) firsts firsts′ lasts lasts′
       → ArcRows h dep firsts′ lasts′ arc → Marks (Arc (conflict-of (contents-of b)) (unit-of (contents-of b)) (contents-of b .history)) arc
   unfolding contents-of book-tables
   book-arcs dep firsts firsts′ lasts lasts′ arc d u r = r .marks (book-tables dep firsts firsts′ lasts lasts′ d u)

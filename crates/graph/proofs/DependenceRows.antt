@@ -181,5 +181,8 @@ steps-marks L conflict h t n l e s =
 pub fresh-known : (L : ℕ → ℕ → Type 0) (t : List ℕ) (p q : ℕ) (answer : Bool) → answer ≡ eqb (bit-at t q p) 1 → answer ≡ true → Fresh L t p q false
 fresh-known L t p q answer e z = record { linked = λ z. absurd (true≢false (sym z)); known = λ z′ l. eqb-true (bit-at t q p) 1 (sym e ∙ z) }
 
-pub fresh-linked : (L : ℕ → ℕ → Type 0) (t : List ℕ) (p q : ℕ) (answer : Bool) → Says (L p q) answer → Fresh L t p q answer
-fresh-linked L t p q answer s = record { linked = s .sound; known = λ z l. absurd (true≢false (sym (s .complete l) ∙ z)) }
+pub fresh-linked : (L : ℕ → ℕ → Type 0) (t : List ℕ) (p q : ℕ) (answer : Bool) → Says (L p q) answer → answer ≡ true → Fresh L t p q true
+fresh-linked L t p q answer s z = record { linked = λ _. s .sound z; known = λ z′ l. absurd (true≢false z′) }
+
+pub fresh-apart : (L : ℕ → ℕ → Type 0) (t : List ℕ) (p q : ℕ) (answer : Bool) → Says (L p q) answer → answer ≡ false → Fresh L t p q false
+fresh-apart L t p q answer s z = record { linked = λ z′. absurd (true≢false (sym z′)); known = λ z′ l. absurd (true≢false (sym (s .complete l) ∙ z)) }

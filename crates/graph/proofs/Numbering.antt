@@ -79,7 +79,8 @@ module _ (hist ordinals places counts : List ℕ) (n p : ℕ) (hs : HistoryOf hi
         counts-at r′ h′ (yes e) = rw e (getD-set-same counts r (c + 1) 0 (omega (arith, small)) ∙ add-one c ∙ sym next-count)
         counts-at r′ h′ (no m) = getD-set-other counts r r′ (c + 1) 0 m ∙ w .counts-are r′ h′ ∙ sym (count-take-ne (take n hist) r′ p (λ e. m (sym e ∙ is-run)))
 
-        old : (r′ i′ : ℕ) → r′ < 16 → i′ < count (take p (take n hist)) r′ → (r′ * 32 + i′ ≡ r * 32 + c → ⊥) → getD (set places (r * 32 + c) p) (r′ * 32 + i′) 0 ≡ place-of (take n hist) r′ i′
+        old : (r′ i′ : ℕ) → r′ < 16 → i′ < count (take p (take n hist)) r′ → (r′ * 32 + i′ ≡ r * 32 + c → ⊥)
+            → getD (set places (r * 32 + c) p) (r′ * 32 + i′) 0 ≡ place-of (take n hist) r′ i′
         old r′ i′ h′ l d = getD-set-other places (r * 32 + c) (r′ * 32 + i′) p 0 d ∙ w .places-are r′ i′ h′ l
 
         here : p ≡ place-of (take n hist) r c

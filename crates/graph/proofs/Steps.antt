@@ -73,7 +73,8 @@ placed-none h starts kinds positions kinds′ positions′ n s = record {
   steps = record { kinds-at = record { at = λ k i. absurd (low k i) }; positions-at = record { at = λ k i. absurd (low k i) }; small = s };
 }
 
-pub placed-all : (h starts kinds positions next kinds′ positions′ : List ℕ) (n p : ℕ) → PlacesBelow h starts kinds positions next kinds′ positions′ n p → n ≤ p → StepsByPlace h starts kinds positions kinds′ positions′ n
+pub placed-all : (h starts kinds positions next kinds′ positions′ : List ℕ) (n p : ℕ) → PlacesBelow h starts kinds positions next kinds′ positions′ n p → n ≤ p
+    → StepsByPlace h starts kinds positions kinds′ positions′ n
 placed-all h starts kinds positions next kinds′ positions′ n p w l = let e : p ≡ n = omega (arith, w .within) in rw e at (w .steps)
 
 small-set : (m : ℕ) (l : List ℕ) (i v : ℕ) → Small m l → v < m → Small m (set l i v)

@@ -244,7 +244,8 @@ module _ (hist ordinals places : List ℕ) (n : ℕ) (hs : HistoryOf hist n) (nb
           where
             row : (unit : ℕ → ℕ → ℕ → ℕ) → CutsOf unit cuts → (o : ℕ) → o < 16 → FirstOf unit (take n hist) o p (inherited cuts (r * 512 + i * 16) t p from o)
             row unit cs o ho = rw (is-run p r i ip er ei, is-ordinal p r i ip er ei) at
-                (first-next unit cuts cs (take n hist) o ho from p arc (omega (arith, is-ordinal p r i ip er ei, below p r i ip er ei, hs .few r)) (getD t (from * 16 + o) 0) (w .of unit cs .at from o (omega arith) (arc .before) ho))
+                (first-next unit cuts cs (take n hist) o ho from p arc (omega (arith, is-ordinal p r i ip er ei, below p r i ip er ei, hs .few r)) (getD t (from * 16 + o) 0)
+                (w .of unit cs .at from o (omega arith) (arc .before) ho))
 
   -- downwards: the step after p
   module _ (counts : List ℕ) (cn : Counts (take n hist) counts) (p r i c : ℕ) (pos : 0 < p) (ip : p ≤ n) (er : r ≡ getD hist (p - 1) 0) (ei : i ≡ getD ordinals (p - 1) 0) (ec : c ≡ getD counts r 0) where
@@ -293,4 +294,5 @@ module _ (hist ordinals places : List ℕ) (n : ℕ) (hs : HistoryOf hist n) (nb
           where
             row : (unit : ℕ → ℕ → ℕ → ℕ) → CutsOf unit cuts → (o : ℕ) → o < 16 → LastOf unit (take n hist) o (p - 1) (inherited cuts (r * 512 + (i + 1) * 16) t (p - 1) from o)
             row unit cs o ho = rw (f-run ∙ is-run (p - 1) r i jp er ei, f-ordinal) at
-                (last-next unit cuts cs (take n hist) o ho (p - 1) from after (omega (arith, f-ordinal, in-run, hs .few r)) (getD t (from * 16 + o) 0) (w .of unit cs .at from o (omega (arith, after .before)) (omega (arith, f-inside, hist-length hs)) ho))
+                (last-next unit cuts cs (take n hist) o ho (p - 1) from after (omega (arith, f-ordinal, in-run, hs .few r)) (getD t (from * 16 + o) 0)
+                (w .of unit cs .at from o (omega (arith, after .before)) (omega (arith, f-inside, hist-length hs)) ho))

@@ -26,17 +26,19 @@ pub data ArcBy (conflict : ℕ → ℕ → ℕ → ℕ → Bool) (unit : ℕ →
   by-F : (p : ℕ) → run h p ≡ r → ArcD conflict h p q → LastOf unit h (run h q) p x → y ≡ q → ArcBy conflict unit h r q x y
   by-B : run h x ≡ r → ArcD conflict h x q → FirstOf unit h r q y → ArcBy conflict unit h r q x y
 
--- of the places q below m
-pub record ArcByPlaces (conflict : ℕ → ℕ → ℕ → ℕ → Bool) (unit : ℕ → ℕ → ℕ → ℕ) (h : List ℕ) (r m x y : ℕ) : Type 0 where
-  pub q : ℕ
-  pub below : q < m
-  pub arc : ArcBy conflict unit h r q x y
+-- P of some number below m
+pub record Below (P : ℕ → ℕ → ℕ → Type 0) (m x y : ℕ) : Type 0 where
+  pub index : ℕ
+  pub below : index < m
+  pub holds : P index x y
 
--- of the places below n, in the runs r below m
-pub record ArcByRuns (conflict : ℕ → ℕ → ℕ → ℕ → Bool) (unit : ℕ → ℕ → ℕ → ℕ) (h : List ℕ) (n m x y : ℕ) : Type 0 where
-  pub r : ℕ
-  pub below : r < m
-  pub arcs : ArcByPlaces conflict unit h r n x y
+-- the arcs that come of what the places below m depend on in run r
+abbrev pub ArcByPlaces : (ℕ → ℕ → ℕ → ℕ → Bool) → (ℕ → ℕ → ℕ → ℕ) → List ℕ → ℕ → ℕ → ℕ → ℕ → Type 0
+ArcByPlaces conflict unit h r m = Below (ArcBy conflict unit h r) m
+
+-- the arcs that come of what the places below n depend on in the runs below m
+abbrev pub ArcByRuns : (ℕ → ℕ → ℕ → ℕ → Bool) → (ℕ → ℕ → ℕ → ℕ) → List ℕ → ℕ → ℕ → ℕ → ℕ → Type 0
+ArcByRuns conflict unit h n m = Below (λ r. Below (ArcBy conflict unit h r) n) m
 
 -- p is one of the first m places, of run r
 pub record InRun (h : List ℕ) (m p r : ℕ) : Type 0 where
@@ -58,7 +60,8 @@ pub record TablesOf (h dep firsts lasts : List ℕ) : Type 0 where
   pub lasts-are : Lasts unit h lasts
 
 -- u is t with the bits that H tells of i and j, for any conflict and units whose tables these are
-pub record GainedBy (H : (ℕ → ℕ → ℕ → ℕ → Bool) → (ℕ → ℕ → ℕ → ℕ) → List ℕ → ℕ → ℕ → ℕ → ℕ → Type 0) (h dep firsts lasts : List ℕ) (i j : ℕ) (t u : List ℕ) : Type 0 where
+pub record GainedBy (H : (ℕ → ℕ → ℕ → ℕ → Bool) → (ℕ → ℕ → ℕ → ℕ) → List ℕ → ℕ → ℕ → ℕ → ℕ → Type 0)
+    (h dep firsts lasts : List ℕ) (i j : ℕ) (t u : List ℕ) : Type 0 where
   pub by : (a : TablesOf h dep firsts lasts) → Gained (H (a .conflict) (a .unit) h i j) t u
 
 -- the arc rows of any conflict and units whose tables these are

@@ -141,10 +141,13 @@ fn fresh(
     requires { ⌜ (p < 128) × (q < 128) × Small 16 (now kinds) ⌝ }
     ensures { λ r. ⌜ Fresh (Link (now (hist .entry)) (now (kinds .entry)) (now (positions .entry)) (now (pairs .entry))) (now (dep .entry)) p q r ⌝ }
 {
-    if bits::marked(dep, q, p) {
-        return false;
+    if linked(hist, kinds, positions, pairs, p, q) {
+        if bits::marked(dep, q, p) {
+            return false;
+        }
+        return true;
     }
-    linked(hist, kinds, positions, pairs, p, q)
+    false
 }
 
 // The row of place q, from the rows of the places before it. A place that the row tells already brings nothing new.

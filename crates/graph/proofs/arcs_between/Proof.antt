@@ -14,7 +14,7 @@ number-at-requires : tie.Need-number-at-requires
 number-at-requires c κs = search needs
 
 mark-requires : tie.Need-mark-requires
-mark-requires c κs = (search needs, search found-small)
+mark-requires c κs = search (needs, found-small)
 
 arcs-across-requires : tie.Need-arcs-across-requires
 arcs-across-requires c κs = search found-last

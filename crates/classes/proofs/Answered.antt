@@ -1,0 +1,44 @@
+-- Yes and no, and a search below a bound that has found nothing so far.
+use Prim.Native.Nat.{ℕ, _+_, _<_}
+use native.Mathlib.Nat.{not-suc-le-zero}
+use native.Mathlib.Omega.{arith}
+use native.Mathlib.Numerals.{add-one}
+use mathlib.Core.Path.{_≡_, refl, sym, _∙_}
+use mathlib.Core.Logic.{_⊎_, inl, inr}
+use mathlib.Core.Bool.{Bool, true, false}
+use Rattle.theory.proofs.Finite.{below-suc}
+use Rattle.classes.specs.Inner.{Answers, NoneBelow, NonePair}
+
+pub answer-yes : {P : Type 0} → P → Answers P true
+answer-yes p = record { sound = λ e. p; complete = λ p. refl }
+
+pub false-true : false ≡ true → ⊥
+false-true e = let z : _≡_ {A = ℕ} 0 1 = cc in omega arith
+
+pub answer-no : {P : Type 0} → ¬ P → Answers P false
+answer-no n = record { sound = λ e. absurd (false-true e); complete = λ p. absurd (n p) }
+
+pub refute : {P : Type 0} {b : Bool} → Answers P b → b ≡ false → ¬ P
+refute a e p = false-true (sym e ∙ a .complete p)
+
+module _ (P : ℕ → Type 0) where
+  pub none-yet : NoneBelow P 0
+  none-yet = record { none = λ k i p. not-suc-le-zero i }
+
+  pub none-more : (n : ℕ) → NoneBelow P n → ¬ P n → NoneBelow P (n + 1)
+  none-more n t u = record { none = λ k i p. go k p (below-suc (rw (← add-one n) i)) }
+    where
+      go : (k : ℕ) → P k → (k ≡ n) ⊎ (k < n) → ⊥
+      go k p (inl e) = u (rw e at p)
+      go k p (inr i) = t .none k i p
+
+module _ (P : ℕ → ℕ → Type 0) where
+  pub no-pair-yet : NonePair P 0
+  no-pair-yet = record { none = λ b c k i p. not-suc-le-zero i }
+
+  pub no-pair-more : (n : ℕ) → NonePair P n → NoneBelow (λ b. P b n) n → NonePair P (n + 1)
+  no-pair-more n t u = record { none = λ b c k i p. go b c k p (below-suc (rw (← add-one n) i)) }
+    where
+      go : (b c : ℕ) → b < c → P b c → (c ≡ n) ⊎ (c < n) → ⊥
+      go b c k p (inl e) = u .none b (omega arith) (rw e at p)
+      go b c k p (inr i) = t .none b c k i p

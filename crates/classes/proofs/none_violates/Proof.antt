@@ -1,0 +1,49 @@
+-- The invariant: no place below b violates c's unit.
+use Prim.Native.Nat.{_-_}
+use native.Mathlib.Omega.{arith}
+use borrow.Author.Needs.{needs}
+use Rattle.classes.specs.Inner.{NoneBelow, ViolatesIn}
+use Rattle.classes.proofs.Answered.{answer-yes, answer-no, refute, none-yet, none-more}
+use Rattle.classes.proofs.none_violates.Statement.{statement}
+use Rattle.classes.proofs.none_violates.Tie as tie
+
+abbrev Inv-loop : tie.InvT-loop
+Inv-loop history firsts lasts dep c b₀ b = NoneBelow (λ k. ViolatesIn history firsts lasts dep k c) b
+
+abbrev μ-loop : tie.MeasureT-loop
+μ-loop history firsts lasts dep c b₀ b = c - b
+
+loop-holds : tie.Need-loop-holds Inv-loop μ-loop
+loop-holds c = none-yet _
+
+violates-requires : tie.Need-violates-requires Inv-loop μ-loop
+violates-requires c κs = search needs
+
+returns : tie.Need-returns Inv-loop μ-loop
+returns c = answer-no (λ n. n .none _ (omega arith) (c .before .violates .ensures .sound (c .if1 .taken)))
+
+add-b : tie.Need-add-b Inv-loop μ-loop
+add-b c = search needs
+
+loop-less : tie.Need-loop-less Inv-loop μ-loop
+loop-less c = search needs
+
+loop-again : tie.Need-loop-again Inv-loop μ-loop
+loop-again c = none-more _ _ (c .before .before .before .loop .inv) (refute (c .before .violates .ensures) (c .if1 .left))
+
+returns-2 : tie.Need-returns-2 Inv-loop μ-loop
+returns-2 c = answer-yes (record { none = λ k i. c .before .loop .inv .none k (omega arith) })
+
+pub none-violates-spec : {M : Type 1} → statement M
+none-violates-spec =
+    tie.close
+    (tie.spec
+    Inv-loop
+    μ-loop
+    loop-holds
+    violates-requires
+    returns
+    add-b
+    loop-less
+    loop-again
+    returns-2)

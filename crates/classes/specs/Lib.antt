@@ -1,0 +1,3 @@
+-- The root of the specs of `classes`. Inner is no part of the statement.
+pub mod Reply
+pub mod Inner

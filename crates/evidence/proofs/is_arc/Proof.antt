@@ -1,0 +1,17 @@
+-- The table of arcs is that of the book's graph.
+use borrow.Author.Needs.{needs}
+use Rattle.evidence.proofs.BookLaws.{few-done, book-arc}
+use Rattle.evidence.proofs.is_arc.Statement.{statement}
+use Rattle.evidence.proofs.is_arc.Tie as tie
+
+arcs-requires : tie.Need-arcs-requires
+arcs-requires c κs = search needs
+
+arc-by-requires : tie.Need-arc-by-requires
+arc-by-requires c κs = few-done _ (c .before .before .before .pre)
+
+returns : tie.Need-returns
+returns c = book-arc _ (c .before .before .before .before .pre) _ (c .before .before .arcs .ensures) _ _ _ (c .arc-by .ensures)
+
+pub is-arc-spec : {M : Type 1} → statement M
+is-arc-spec = tie.close (tie.spec arcs-requires arc-by-requires returns)

@@ -1,0 +1,49 @@
+-- THE THIRD DEMAND: calls made in turn on the record that opening returned over an accepted book. The contracts of the calls make the chain
+-- a run of the plain gate, of which the demand holds.
+use Prim.Native.Nat.{ℕ, suc, _+_}
+use mathlib.Core.Path.{_≡_, refl, ap, _∙_}
+use mathlib.Core.List.{List, [], _∷_, _++_}
+use lib.ListN.{length}
+use Rattle.book.specs.Format.{Contents, accepted, read}
+use Rattle.writer.specs.Render.{with-history}
+use Rattle.writer.proofs.FormatLaws.{Bytes}
+use Rattle.gate.specs.Plain.{Call, Answer, newly-opened, PlainCalls, PlainCall}
+use Rattle.gate.specs.Plain.{none as no-calls, next as next-call}
+use Rattle.gate.specs.Demand.{Demand3}
+use Rattle.gate.specs.Gate.{answer-of, book-of, state-of, opened-book, OpenedAs, CalledAs}
+use Rattle.gate.specs.Chain.{Chain, none, link}
+use Rattle.gate.specs.declared.Gate.{Gate}
+use Rattle.gate.specs.declared.Opened.{Opened}
+use Rattle.gate.specs.declared.Called.{Called}
+use Rattle.gate.proofs.PlainGate.{call-history}
+use Rattle.gate.proofs.Demand.{plain-demand}
+
+chain-plain : (c : Contents) {g h : Gate} {xs : List Call} {bs : List Answer} → Chain g xs bs h → book-of g ≡ with-history c [] → PlainCalls c (state-of g) xs bs (state-of h)
+chain-plain c none e = no-calls
+chain-plain c {g} (link {x = x} r w k) e =
+    let p : PlainCall (with-history c []) (state-of g) x (answer-of (r .answer)) (state-of (r .gate)) = rw e at (w .plain) in
+    next-call (call-history c [] p) (chain-plain c k (w .book ∙ e))
+
+pub chain-book : {g h : Gate} {xs : List Call} {bs : List Answer} → Chain g xs bs h → book-of h ≡ book-of g
+chain-book none = refl
+chain-book (link r w k) = chain-book k ∙ w .book
+
+-- from the opening on
+pub opened-plain : (s : List ℕ) (c : Contents) (o : Opened) (calls : List Call) (answers : List Answer) (g : Gate) → read s ≡ accepted c → OpenedAs (read s) o
+    → Chain (o .gate) calls answers g → PlainCalls c newly-opened calls answers (state-of g)
+opened-plain s c o calls answers g e w k = rw (← w .state) (chain-plain c k (w .book ∙ ap opened-book e))
+
+pub demand-3 : (s : List ℕ) (c : Contents) → Bytes s → read s ≡ accepted c → (o : Opened) → OpenedAs (read s) o
+    → (calls : List Call) (answers : List Answer) (g : Gate) → Chain (o .gate) calls answers g → Demand3 c calls answers (state-of g)
+demand-3 s c bytes e o w calls answers g k = plain-demand c s bytes e calls answers (state-of g) (opened-plain s c o calls answers g e w k)
+
+-- ---- one call more
+
+pub chain-snoc : {g h : Gate} {xs : List Call} {bs : List Answer} {x : Call} → Chain g xs bs h → (r : Called) → CalledAs h x r
+    → Chain g (xs ++ x ∷ []) (bs ++ answer-of (r .answer) ∷ []) (r .gate)
+chain-snoc none r w = link r w none
+chain-snoc (link q v k) r w = link q v (chain-snoc k r w)
+
+pub chain-length : {g h : Gate} {xs : List Call} {bs : List Answer} → Chain g xs bs h → length bs ≡ length xs
+chain-length none = refl
+chain-length (link r w k) = ap suc (chain-length k)

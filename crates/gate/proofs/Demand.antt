@@ -1,0 +1,132 @@
+-- Demand 3 holds of whatever answers and state the plain gate's rules give a list of calls.
+use Prim.Native.Nat.{ℕ, _<_}
+use native.Mathlib.Nat.{not-suc-le-zero, le-of-suc-le-suc}
+use native.Mathlib.Omega.{arith}
+use mathlib.Core.Path.{_≡_, refl, ap}
+use mathlib.Core.Logic.{_↔_}
+use mathlib.Core.List.{List}
+use lib.ListN.{length, take}
+use Rattle.theory.specs.Relative.{RelativelySerializable}
+use Rattle.book.specs.Format.{Contents, accepted, read}
+use Rattle.book.specs.Meaning.{conflict-of, unit-of}
+use Rattle.book.specs.Numbers.{number}
+use Rattle.book.specs.declared.Cause.{Cause}
+use Rattle.book.specs.declared.Cause.the-variants.{Tangled}
+use Rattle.writer.specs.Render.{render, with-history}
+use Rattle.writer.proofs.FormatLaws.{Bytes}
+use Rattle.writer.proofs.RoundTrip.{accepted-book, render-bytes, read-with-history}
+use Rattle.writer.proofs.Histories.{history-book}
+use Rattle.judge.specs.Judged.{JudgedAs}
+use Rattle.judge.specs.Judge.{OutcomeJudged}
+use Rattle.judge.specs.declared.Verdict.{Verdict}
+use Rattle.judge.specs.declared.Verdict.the-variants.{Refused, Passed}
+use Rattle.judge.specs.declared.Verdict.the-variants.{Tangled as JudgeTangled}
+use Rattle.gate.specs.Plain.{Call, step, withdraw, Answer, place, withdrawn, refused, State, newly-opened, In, Eligible, Refusal, not-declared, was-withdrawn, all-kept, IsTangled, PlainCall, step-refused, step-tangled, step-kept, withdraws, PlainCalls, none, next}
+use Rattle.gate.specs.Demand.{At, here, there, JudgePasses, Demand3}
+use Rattle.gate.proofs.PlainGate.{single, not-eligible, single-calls, Passing, passing-start, passing-call, in-insert, withdrawn-call, tangled-call}
+
+-- ---- the judge passes what is allowed and relatively serializable
+
+judged-passes : (c : Contents) (k order order′ cycle cycle′ : List ℕ) → RelativelySerializable (conflict-of c) (unit-of c) k → (v : Verdict) (n : ℕ)
+    → JudgedAs (conflict-of c) (unit-of c) k order order′ cycle cycle′ v n → v ≡ Passed
+judged-passes c k order order′ cycle cycle′ s (Refused cause at) n j = absurd j
+judged-passes c k order order′ cycle cycle′ s Passed n j = refl
+judged-passes c k order order′ cycle cycle′ s JudgeTangled n j = absurd (j .not-serializable s)
+
+judge-passes : (s : List ℕ) (c : Contents) → Bytes s → read s ≡ accepted c → (k : List ℕ) → Passing c k → JudgePasses c k
+judge-passes s c bytes e k w = record {
+  bytes = render-bytes (with-history c k) (history-book c k (accepted-book s c bytes e) (w .allowed));
+  reads = reads;
+  passes = λ order order′ cycle cycle′ r m n j.
+      let o : OutcomeJudged order order′ cycle cycle′ (accepted (with-history c k)) r = rw reads at (j .long m n) in
+      judged-passes c k order order′ cycle cycle′ (w .passed) (r .verdict) (r .count) o;
+}
+  where
+    reads : read (render (with-history c k)) ≡ accepted (with-history c k)
+    reads = read-with-history s c k bytes e (w .allowed)
+
+module _ (c : Contents) where
+  -- ---- a call of the list, at its moment
+
+  -- the rule by which call i was answered, from the state that the calls before it lead to
+  rule-at : {g h m : State} {xs : List Call} {bs ds : List Answer} {i : ℕ} {x : Call} {a : Answer} → At xs i x → At bs i a → PlainCalls c g xs bs h
+      → PlainCalls c g (take i xs) ds m → (k : State) × PlainCall c m x a k
+  rule-at here here (next p ps) none = (_, p)
+  rule-at {g} (there x) (there a) (next p ps) (next q qs) = rule-at x a ps (rw (← single c g p q .states) at qs)
+
+  -- each call has an answer
+  answer-at : {g h : State} {xs : List Call} {bs : List Answer} {i : ℕ} {x : Call} → At xs i x → PlainCalls c g xs bs h → (a : Answer) × At bs i a
+  answer-at here (next p ps) = (_, here)
+  answer-at (there x) (next p ps) = let t = answer-at x ps in (t .0, there (t .1))
+
+  one-at : {A : Type 0} {l : List A} {i : ℕ} {x y : A} → At l i x → At l i y → x ≡ y
+  one-at here here = refl
+  one-at (there p) (there q) = one-at p q
+
+  not-place : (p n : ℕ) → place p ≡ refused n → ⊥
+  not-place p n e = let z : _≡_ {A = ℕ} 0 1 = cc in omega arith
+
+  -- 20, 21 and 22 are not 23
+  other-number : {g : State} {r : ℕ} {cause : Cause} → Refusal c g r cause → refused (number cause) ≡ refused (number Tangled) → ⊥
+  other-number (not-declared h) e = let z : _≡_ {A = ℕ} 20 23 = cc in omega arith
+  other-number (was-withdrawn h w) e = let z : _≡_ {A = ℕ} 21 23 = cc in omega arith
+  other-number (all-kept h n l) e = let z : _≡_ {A = ℕ} 22 23 = cc in omega arith
+
+  -- an eligible step is refused as tangled exactly when it is
+  eligible-tangled : {g h : State} {r : ℕ} {a : Answer} → Eligible c g r → PlainCall c g (step r) a h → (a ≡ refused (number Tangled)) ↔ (IsTangled c g r)
+  eligible-tangled {g} e (step-refused p) = absurd (not-eligible c g p e)
+  eligible-tangled e (step-tangled f n) = (λ q. n, λ m. refl)
+  eligible-tangled {g} e (step-kept f s) = (λ q. absurd (not-place (length (g .kept)) (number Tangled) q), λ m. absurd (s m))
+
+  -- ---- what keeps a run's steps out, once it holds, keeps them out for good
+
+  module _ (r : ℕ) (P : State → Type 0) (keeps : (g h : State) (x : Call) (a : Answer) → PlainCall c g x a h → P g → P h)
+      (bars : (g h : State) (p : ℕ) → P g → PlainCall c g (step r) (place p) h → ⊥) where
+    never : {g h : State} {xs : List Call} {bs : List Answer} {j p : ℕ} → P g → At xs j (step r) → At bs j (place p) → PlainCalls c g xs bs h → ⊥
+    never w here here (next p ps) = bars _ _ _ w p
+    never w (there x) (there a) (next p ps) = never (keeps _ _ _ _ p w) x a ps
+
+    later : {x : Call} {a : Answer} → ((g h : State) → PlainCall c g x a h → P h) → {g h : State} {xs : List Call} {bs : List Answer} {i j p : ℕ} → i < j
+        → At xs i x → At bs i a → At xs j (step r) → At bs j (place p) → PlainCalls c g xs bs h → ⊥
+    later f l here here here here (next p ps) = absurd (not-suc-le-zero l)
+    later f l here here (there y) (there b) (next p ps) = never (f _ _ p) y b ps
+    later f l (there x) (there a) here here (next p ps) = absurd (not-suc-le-zero l)
+    later f l (there x) (there a) (there y) (there b) (next p ps) = later f (le-of-suc-le-suc l) x a y b ps
+
+  withdrawn-bars : (r : ℕ) {g h : State} {p : ℕ} → In r (g .withdrawn) → PlainCall c g (step r) (place p) h → ⊥
+  withdrawn-bars r w (step-kept e s) = e .present w
+
+  withdrawn-after : (r : ℕ) {g h : State} → PlainCall c g (withdraw r) withdrawn h → In r (h .withdrawn)
+  withdrawn-after r {g} (withdraws e) = in-insert r (g .withdrawn)
+
+  tangled-bars : (r : ℕ) {g h : State} {p : ℕ} → IsTangled c g r → PlainCall c g (step r) (place p) h → ⊥
+  tangled-bars r n (step-kept e s) = s n
+
+  tangled-after : (r : ℕ) {g h : State} {a : Answer} → a ≡ refused (number Tangled) → PlainCall c g (step r) a h → IsTangled c h r
+  tangled-after r q (step-refused p) = absurd (other-number p q)
+  tangled-after r q (step-tangled e n) = n
+  tangled-after r {g} q (step-kept e s) = absurd (not-place (length (g .kept)) (number Tangled) q)
+
+  -- ---- the demand
+
+  passing-calls : {g h : State} {xs : List Call} {bs : List Answer} → PlainCalls c g xs bs h → Passing c (g .kept) → Passing c (h .kept)
+  passing-calls none w = w
+  passing-calls (next p ps) w = passing-calls ps (passing-call c p w)
+
+  pub plain-demand : (s : List ℕ) → Bytes s → read s ≡ accepted c → (calls : List Call) (answers : List Answer) (g : State) → PlainCalls c newly-opened calls answers g
+      → Demand3 c calls answers g
+  plain-demand s bytes e calls answers g ps = record {
+    plain = ps;
+    answers-equal = λ bs h qs. single-calls c ps qs .0;
+    kept-equal = λ bs h qs. ap (λ (k : State). k .kept) (single-calls c ps qs .1);
+    withdrawn-equal = λ bs h qs. ap (λ (k : State). k .withdrawn) (single-calls c ps qs .1);
+    judge-passes = judge-passes s c bytes e (g .kept) (passing-calls ps (passing-start c));
+    tangled-exactly = λ i r m x at o.
+        let a = answer-at x ps in
+        let t = eligible-tangled o (rule-at x (a .1) ps (at .reached) .1) in
+        (λ y. t .0 (one-at (a .1) y), λ n. rw (t .1 n) at (a .1));
+    withdrawn-stays = λ i j r l x a y b.
+        later r (λ g. In r (g .withdrawn)) (λ g h x a p w. withdrawn-call c r p w) (λ g h q w p. withdrawn-bars r w p) (λ g h p. withdrawn-after r p) l x a y (b .1) ps;
+    tangled-stays = λ i j r l x a y b.
+        later r (λ g. IsTangled c g r) (λ g h x a p n. tangled-call c r p n) (λ g h q n p. tangled-bars r n p) (λ g h p. tangled-after r refl p) l x a y (b .1) ps;
+  }

@@ -1,0 +1,7 @@
+-- The proofs of `gate` that are no function's own.
+pub mod PlainGate
+pub mod Demand
+pub mod Records
+pub mod Chained
+pub mod CallBytes
+pub mod Replays

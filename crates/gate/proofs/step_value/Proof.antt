@@ -1,0 +1,46 @@
+-- `step_value` is right: each of its ways out is a rule of the plain gate for a step.
+use Rattle.gate.proofs.Records.{step-refuses, step-left, step-keeps, step-tangles}
+use borrow.Author.Needs.{needs}
+use Rattle.gate.proofs.step_value.Statement.{statement}
+use Rattle.gate.proofs.step_value.Tie as tie
+
+wide-requires : tie.Need-wide-requires
+wide-requires c κs = search needs
+
+standing-of-requires : tie.Need-standing-of-requires
+standing-of-requires c κs = search needs
+
+enum-known-cause : tie.Need-enum-known-cause
+enum-known-cause c = search needs
+
+returns : tie.Need-returns
+returns c = search step-refuses
+
+enum-told : tie.Need-enum-told
+enum-told c = search needs
+
+with-step-requires : tie.Need-with-step-requires
+with-step-requires c κs = search step-left
+
+passes-requires : tie.Need-passes-requires
+passes-requires c κs = search needs
+
+returns-2 : tie.Need-returns-2
+returns-2 c = search step-keeps
+
+returns-3 : tie.Need-returns-3
+returns-3 c = search step-tangles
+
+pub step-value-spec : {M : Type 1} → statement M
+step-value-spec =
+    tie.close
+    (tie.spec
+    wide-requires
+    standing-of-requires
+    enum-known-cause
+    returns
+    enum-told
+    with-step-requires
+    passes-requires
+    returns-2
+    returns-3)

@@ -1,0 +1,54 @@
+-- Demand 3: what holds after a list of step and withdraw calls made in turn on a gate newly opened over an accepted book.
+use Prim.Native.Nat.{ℕ, zero, suc, _≤_, _<_}
+use mathlib.Core.Path.{_≡_}
+use mathlib.Core.Logic.{_↔_}
+use mathlib.Core.List.{List, _∷_}
+use lib.ListN.{length, getD, take}
+use Rattle.book.specs.Format.{Contents, accepted, step-limit, read}
+use Rattle.book.specs.Numbers.{number}
+use Rattle.book.specs.declared.Cause.the-variants.{Tangled}
+use Rattle.writer.specs.Render.{render, with-history}
+use Rattle.judge.specs.Judge.{BytesJudged}
+use Rattle.judge.specs.declared.Judgement.{Judgement}
+use Rattle.judge.specs.declared.Verdict.the-variants.{Passed}
+use Rattle.gate.specs.Plain.{Call, step, withdraw, Answer, place, withdrawn, refused, State, newly-opened, Eligible, IsTangled, PlainCalls}
+
+-- x stands at index i of the list
+pub data At {A : Type 0} : List A → ℕ → A → Type 0 where
+  here : {x : A} {l : List A} → At (x ∷ l) zero x
+  there : {x y : A} {l : List A} {i : ℕ} → At l i x → At (y ∷ l) (suc i) x
+
+-- the judge passes the book with k as its history: the bytes of that book are an accepted book, and on them, with buffers as long as the
+-- judge asks, each judgement that meets the judge's contract is "passed"
+pub record JudgePasses (c : Contents) (k : List ℕ) : Type 0 where
+  pub bytes : (i : ℕ) → getD (render (with-history c k)) i 0 < 256
+  pub reads : read (render (with-history c k)) ≡ accepted (with-history c k)
+  pub passes : (order order′ cycle cycle′ : List ℕ) (r : Judgement) → step-limit ≤ length order → step-limit ≤ length cycle
+      → BytesJudged order order′ cycle cycle′ (render (with-history c k)) r → r .verdict ≡ Passed
+
+-- m is the plain gate's state at the moment when call i is made
+pub record Moment (c : Contents) (calls : List Call) (i : ℕ) (m : State) : Type 0 where
+  pub answers : List Answer
+  pub reached : PlainCalls c newly-opened (take i calls) answers m
+
+-- a step call is admitted if its answer is a place
+abbrev pub Admitted : List Answer → ℕ → Type 0
+Admitted answers j = (p : ℕ) × At answers j (place p)
+
+-- of the contents of the book, the calls, their answers, and the state after them
+pub record Demand3 (c : Contents) (calls : List Call) (answers : List Answer) (g : State) : Type 0 where
+  -- The answers in order, the kept list and the withdrawn runs equal those of document 01's plain gate given the same calls.
+  pub plain : PlainCalls c newly-opened calls answers g
+  pub answers-equal : (bs : List Answer) (h : State) → PlainCalls c newly-opened calls bs h → answers ≡ bs
+  pub kept-equal : (bs : List Answer) (h : State) → PlainCalls c newly-opened calls bs h → g .kept ≡ h .kept
+  pub withdrawn-equal : (bs : List Answer) (h : State) → PlainCalls c newly-opened calls bs h → g .withdrawn ≡ h .withdrawn
+  -- The judge passes the book with the kept list as its history.
+  pub judge-passes : JudgePasses c (g .kept)
+  -- A step call whose run was declared, not withdrawn and had a step left was refused, as tangled, exactly when no relatively serial order of
+  -- that moment's kept list extended by that step agrees with the extended list on every conflicting pair.
+  pub tangled-exactly : (i r : ℕ) (m : State) → At calls i (step r) → Moment c calls i m → Eligible c m r
+      → At answers i (refused (number Tangled)) ↔ IsTangled c m r
+  -- Once a run is withdrawn, no step call for it later in the list is admitted.
+  pub withdrawn-stays : (i j r : ℕ) → i < j → At calls i (withdraw r) → At answers i withdrawn → At calls j (step r) → ¬ Admitted answers j
+  -- Once a step call is refused as tangled, no step call for the same run later in the list is admitted.
+  pub tangled-stays : (i j r : ℕ) → i < j → At calls i (step r) → At answers i (refused (number Tangled)) → At calls j (step r) → ¬ Admitted answers j

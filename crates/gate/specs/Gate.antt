@@ -1,0 +1,57 @@
+-- What the gate's record means, and what opening and the calls promise (document 01, "Plain gate").
+use mathlib.Core.Path.{_≡_}
+use mathlib.Core.List.{[]}
+use Rattle.book.specs.Format.{Contents, Outcome, run-limit, nothing}
+use Rattle.book.specs.Format.{refused as book-refused, accepted as book-accepted}
+use Rattle.book.specs.Numbers.{number}
+use Rattle.book.specs.Book.{marked, contents-of, Flags, Valid}
+use Rattle.book.specs.declared.Answer.{Answer as BookAnswer}
+use Rattle.book.specs.declared.Answer.the-variants.{Refused as BookRefused, Accepted as BookAccepted}
+use Rattle.writer.specs.Render.{with-history}
+use Rattle.gate.specs.Plain.{Call, Answer, place, withdrawn, refused, State, newly-opened, PlainCall}
+use Rattle.gate.specs.declared.Reply.{Reply}
+use Rattle.gate.specs.declared.Reply.the-variants.{Place, Withdrawn, Refused}
+use Rattle.gate.specs.declared.Gate.{Gate}
+use Rattle.gate.specs.declared.Opened.{Opened}
+use Rattle.gate.specs.declared.Called.{Called}
+
+-- document 01's answer for each case of the enum; a refusal is its number
+abbrev pub answer-of : Reply → Answer
+answer-of (Place p) = place p
+answer-of Withdrawn = withdrawn
+answer-of (Refused cause) = refused (number cause)
+
+-- the record's book, whose own history plays no part
+abbrev pub book-of : Gate → Contents
+book-of g = with-history (contents-of (g .book)) []
+
+-- the record's kept list is the history of its book, and its withdrawn runs are those whose flag is not 0
+abbrev pub state-of : Gate → State
+state-of g = record { kept = contents-of (g .book) .history; withdrawn = marked 0 (g .withdrawn) }
+
+-- a record as opening and the calls return it
+pub record Sound (g : Gate) : Type 0 where
+  pub valid : Valid (g .book)
+  pub flags : Flags run-limit (g .withdrawn)
+
+-- opening is refused by 1 to 11 with cause and place, as reading is, and then hands back the gate of a book without runs
+abbrev pub opening-answer : Outcome → BookAnswer
+opening-answer (book-refused cause at) = BookRefused cause at
+opening-answer (book-accepted c) = BookAccepted
+
+abbrev pub opened-book : Outcome → Contents
+opened-book (book-refused cause at) = nothing
+opened-book (book-accepted c) = with-history c []
+
+-- what opening a gate promises, of the outcome of reading its bytes
+pub record OpenedAs (o : Outcome) (x : Opened) : Type 0 where
+  pub answer : x .answer ≡ opening-answer o
+  pub book : book-of (x .gate) ≡ opened-book o
+  pub state : state-of (x .gate) ≡ newly-opened
+  pub sound : Sound (x .gate)
+
+-- what a call on the record g promises: the plain gate's answer and next state, and the same book
+pub record CalledAs (g : Gate) (x : Call) (r : Called) : Type 0 where
+  pub plain : PlainCall (book-of g) (state-of g) x (answer-of (r .answer)) (state-of (r .gate))
+  pub book : book-of (r .gate) ≡ book-of g
+  pub sound : Sound (r .gate)

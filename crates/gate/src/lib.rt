@@ -1,0 +1,333 @@
+// The gate: one record, updated by each call. Opening, step and withdraw, and the replay of a whole list of calls.
+ghost use mathlib.Core.Path.{_≡_};
+ghost use Prim.Native.Nat.{_≤_};
+ghost use mathlib.Core.List.{[]};
+ghost use Rattle.book.specs.Format.{run-limit, add-done, read};
+ghost use Rattle.book.specs.Book.{contents-of, Valid};
+ghost use Rattle.book.proofs.Books.{Represents};
+ghost use Rattle.writer.specs.Render.{with-history};
+ghost use Rattle.gate.specs.Plain.{step as step-call, withdraw as withdraw-call};
+ghost use Rattle.gate.specs.Gate.{Sound, OpenedAs, CalledAs};
+ghost use Rattle.gate.specs.Replay.{call-of, calls-of, bad-at, Replays};
+ghost use Rattle.gate.specs.Inner.{Stands, StepLeft, Passes, Low, BytesOf, Room, Plays};
+use book::Answer;
+use book::Book;
+use book::Cause;
+use judge::Verdict;
+
+// The book, whose history is the kept list, and a flag for each run: 1 once it is withdrawn, else 0.
+pub struct Gate {
+    pub book: Book,
+    pub withdrawn: [u8; Book::RUNS],
+}
+
+// The answer to a call.
+pub enum Reply {
+    // The place of an admitted step.
+    Place(usize),
+    Withdrawn,
+    Refused(Cause),
+}
+
+// The answer to a call, and the record as it leaves it.
+pub struct Called {
+    pub answer: Reply,
+    pub gate: Gate,
+}
+
+// Accepted, or refused with cause and place; and the gate, which has no runs where the book is refused.
+pub struct Opened {
+    pub answer: Answer,
+    pub gate: Gate,
+}
+
+// A byte as a number.
+fn wide(x: u8) -> usize
+    ensures { λ r. ⌜ r ≡ x ⌝ }
+{
+    x as usize
+}
+
+// The book without its history.
+fn without_history(mut b: Book) -> Book
+    requires { ⌜ Valid b ⌝ }
+    ensures { λ r. ⌜ Represents (with-history (contents-of b) []) r ⌝ }
+{
+    let dones = [0u8; Book::RUNS];
+    let history = [0u8; Book::STEPS];
+    b.dones = dones;
+    b.history = history;
+    b.done = 0;
+    b
+}
+
+// Opens a gate over a book: no step is kept, no run withdrawn.
+pub fn open(s: &[u8]) -> Opened
+    ensures { λ r. ⌜ OpenedAs (read (now (s .entry))) r ⌝ }
+{
+    let reading = book::read(s);
+    let answer = reading.answer;
+    let whole = reading.book;
+    let b = without_history(whole);
+    let withdrawn = [0u8; Book::RUNS];
+    Opened {
+        answer,
+        gate: Gate { book: b, withdrawn },
+    }
+}
+
+// Whether a call for a run is refused by 20, 21 or 22.
+enum Standing {
+    Eligible,
+    Refused(Cause),
+}
+
+fn standing_of<'a>(
+    runs: usize,
+    lens: &'a [u8; Book::RUNS],
+    dones: &'a [u8; Book::RUNS],
+    withdrawn: &'a [u8; Book::RUNS],
+    i: usize,
+) -> Standing
+    requires { ⌜ runs ≤ run-limit ⌝ }
+    ensures { λ r. ⌜ Stands runs (now (lens .entry)) (now (dones .entry)) (now (withdrawn .entry)) i r ⌝ }
+{
+    if i >= runs {
+        return Standing::Refused(Cause::NotDeclared);
+    }
+    if withdrawn[i] != 0 {
+        return Standing::Refused(Cause::Withdrawn);
+    }
+    if dones[i] >= lens[i] {
+        return Standing::Refused(Cause::AllKept);
+    }
+    Standing::Eligible
+}
+
+// The book with one more step of run r done.
+fn with_step(mut b: Book, r: u8) -> Book
+    requires { ⌜ StepLeft b r ⌝ }
+    ensures { λ x. ⌜ Represents (add-done (contents-of b) r) x ⌝ }
+{
+    let i = wide(r);
+    let n = b.done;
+    let k = b.dones[i];
+    b.history[n] = r;
+    b.dones[i] = k + 1;
+    b.done = n + 1;
+    b
+}
+
+// Whether the judge passes the book's history.
+fn passes(b: Book) -> bool
+    requires { ⌜ Valid b ⌝ }
+    ensures { λ r. ⌜ Passes (contents-of b) r ⌝ }
+{
+    let mut order = [0u8; Book::STEPS];
+    let mut cycle = [0u8; Book::STEPS];
+    let j = judge::judge_book(b, &mut order, &mut cycle);
+    let verdict = j.verdict;
+    match verdict {
+        Verdict::Passed => true,
+        Verdict::Tangled => false,
+        Verdict::Refused(_, _) => false,
+    }
+}
+
+// Step r: refused by 20, 21, 22, 23 in that order; else r joins the end of the kept list, and the answer is its place.
+pub fn step_value(g: Gate, r: u8) -> Called
+    requires { ⌜ Sound g ⌝ }
+    ensures { λ x. ⌜ CalledAs g (step-call r) x ⌝ }
+{
+    let b = g.book;
+    let withdrawn = g.withdrawn;
+    let i = wide(r);
+    match standing_of(b.runs, &b.lens, &b.dones, &withdrawn, i) {
+        Standing::Refused(cause) => {
+            return Called {
+                answer: Reply::Refused(cause),
+                gate: g,
+            };
+        }
+        Standing::Eligible => {
+            let place = b.done;
+            let longer = with_step(b, r);
+            if passes(longer) {
+                return Called {
+                    answer: Reply::Place(place),
+                    gate: Gate {
+                        book: longer,
+                        withdrawn,
+                    },
+                };
+            }
+            return Called {
+                answer: Reply::Refused(Cause::Tangled),
+                gate: g,
+            };
+        }
+    }
+}
+
+// Withdraw r: refused by 20, 21, 22 in that order; else r is withdrawn, and the kept list stays.
+pub fn withdraw_value(g: Gate, r: u8) -> Called
+    requires { ⌜ Sound g ⌝ }
+    ensures { λ x. ⌜ CalledAs g (withdraw-call r) x ⌝ }
+{
+    let b = g.book;
+    let withdrawn = g.withdrawn;
+    let i = wide(r);
+    match standing_of(b.runs, &b.lens, &b.dones, &withdrawn, i) {
+        Standing::Refused(cause) => {
+            return Called {
+                answer: Reply::Refused(cause),
+                gate: g,
+            };
+        }
+        Standing::Eligible => {
+            let mut h = g;
+            h.withdrawn[i] = 1;
+            return Called {
+                answer: Reply::Withdrawn,
+                gate: h,
+            };
+        }
+    }
+}
+
+// One call in two bytes: 0x53 and a run steps it, 0x57 and a run withdraws it.
+fn call_value(g: Gate, op: u8, r: u8) -> Called
+    requires { ⌜ Sound g ⌝ }
+    ensures { λ x. ⌜ CalledAs g (call-of op r) x ⌝ }
+{
+    if op == 0x53 {
+        return step_value(g, r);
+    }
+    withdraw_value(g, r)
+}
+
+// The two bytes of an answer: 0 and the place, 1 and 0 for "withdrawn", 2 and a refusal's number.
+struct AnswerBytes {
+    first: u8,
+    second: u8,
+}
+
+fn answer_bytes(a: Reply) -> AnswerBytes
+    requires { ⌜ Low a ⌝ }
+    ensures { λ r. ⌜ BytesOf a r ⌝ }
+{
+    match a {
+        Reply::Place(p) => AnswerBytes {
+            first: 0,
+            second: p as u8,
+        },
+        Reply::Withdrawn => AnswerBytes {
+            first: 1,
+            second: 0,
+        },
+        Reply::Refused(cause) => AnswerBytes {
+            first: 2,
+            second: book::number_of(cause),
+        },
+    }
+}
+
+// The offset of the first byte that is no call, or of a cut-off call; the length where there is neither.
+fn bad_call(calls: &[u8]) -> usize
+    ensures { λ r. ⌜ r ≡ bad-at 0 (now (calls .entry)) ⌝ }
+{
+    let mut at = 0;
+    while at < calls.len() {
+        if calls.len() - at < 2 {
+            return at;
+        }
+        let op = calls[at];
+        if op != 0x53 {
+            if op != 0x57 {
+                return at;
+            }
+        }
+        at += 2;
+    }
+    at
+}
+
+// Makes the calls in turn on the one record, and puts their answers into the buffer.
+fn play(g: Gate, calls: &[u8], answers: &mut [u8]) -> Gate
+    requires { ⌜ Room g (calls-of (now calls)) (now answers) ⌝ }
+    ensures { λ h. ⌜ Plays g (calls-of (now (calls .entry))) (now (answers .entry)) (now (answers .exit)) h ⌝ }
+{
+    let mut h = g;
+    let n = calls.len() / 2;
+    let mut i = 0;
+    while i < n {
+        let at = i * 2;
+        let next = at + 1;
+        let op = calls[at];
+        let run = calls[next];
+        let called = call_value(h, op, run);
+        let answer = called.answer;
+        let bytes = answer_bytes(answer);
+        answers[at] = bytes.first;
+        answers[next] = bytes.second;
+        h = called.gate;
+        i += 1;
+    }
+    h
+}
+
+// What a replay answers.
+pub enum Played {
+    // The book is refused: the cause and the place.
+    Refused(Cause, usize),
+    // 24: at this offset of the list is no call, or a cut-off one.
+    BadCall(usize),
+    // 25: the buffer has fewer than two bytes an answer.
+    AnswersShort,
+    // All calls are made, so many.
+    Done(usize),
+}
+
+// The answer, and the record as the last call left it; where the replay is refused, as opening left it.
+pub struct Replayed {
+    pub played: Played,
+    pub gate: Gate,
+}
+
+// Opens a gate over the book, makes the calls in turn on the one record, and puts their answers in order into the buffer.
+pub fn replay(book: &[u8], calls: &[u8], answers: &mut [u8]) -> Replayed
+    ensures { λ r. ⌜ Replays (now (book .entry)) (now (calls .entry)) (now (answers .entry)) (now (answers .exit)) r ⌝ }
+{
+    let opened = open(book);
+    let answer = opened.answer;
+    let g = opened.gate;
+    match answer {
+        Answer::Refused(cause, place) => {
+            return Replayed {
+                played: Played::Refused(cause, place),
+                gate: g,
+            };
+        }
+        Answer::Accepted => {
+            let at = bad_call(calls);
+            if at != calls.len() {
+                return Replayed {
+                    played: Played::BadCall(at),
+                    gate: g,
+                };
+            }
+            let n = calls.len() / 2;
+            if answers.len() < calls.len() {
+                return Replayed {
+                    played: Played::AnswersShort,
+                    gate: g,
+                };
+            }
+            let h = play(g, calls, answers);
+            return Replayed {
+                played: Played::Done(n),
+                gate: h,
+            };
+        }
+    }
+}
