@@ -39,6 +39,7 @@ pub record RunAt (history : List ℕ) (p r : ℕ) : Type 0 where
 pub record RowOfPlaces (t : List ℕ) (p : ℕ) : Type 0 where
   pub small : (o : ℕ) → o < run-limit → getD t (p * 16 + o) 0 < step-limit
 
+-- in the rows of the places below n stand places below the limit
 pub record RowsOfPlaces (t : List ℕ) (n : ℕ) : Type 0 where
   pub row : (p : ℕ) → p < n → RowOfPlaces t p
 

@@ -30,7 +30,7 @@ pub fn wide(x: u8) -> usize
 }
 
 // The run of a place.
-pub fn run_of(history: &[u8; 128], p: usize) -> usize
+fn run_of(history: &[u8; 128], p: usize) -> usize
     requires { ⌜ (p < 128) × Runs (now history) ⌝ }
     ensures { λ r. ⌜ RunAt (now (history .entry)) p r ⌝ }
 {
@@ -46,7 +46,7 @@ fn place_in(t: &Units, p: usize, o: usize) -> usize
 }
 
 // Whether each run's steps stand together: no step of a run that came before follows another run's.
-pub fn stands_together(history: &[u8; 128], n: usize) -> bool
+fn stands_together(history: &[u8; 128], n: usize) -> bool
     requires { ⌜ History (now history) n ⌝ }
     ensures { λ r. ⌜ Answers (Serial (take n (now (history .entry)))) r ⌝ }
 {
@@ -90,7 +90,7 @@ fn none_interleaved(history: &[u8; 128], firsts: &Units, c: usize) -> bool
 }
 
 // Whether no step is interleaved with a unit of another run.
-pub fn atomic_by(history: &[u8; 128], n: usize, firsts: &Units) -> bool
+fn atomic_by(history: &[u8; 128], n: usize, firsts: &Units) -> bool
     requires { ⌜ History (now history) n ⌝ }
     ensures { λ r. ⌜ AtomicBy (now (history .entry)) n (now (firsts .entry)) r ⌝ }
 {
@@ -138,7 +138,7 @@ fn none_violates(history: &[u8; 128], firsts: &Units, lasts: &Units, dep: &Table
 }
 
 // Whether no step depends on a unit of another run that it is interleaved with, nor the unit on it.
-pub fn relatively_serial_by(
+fn relatively_serial_by(
     history: &[u8; 128],
     n: usize,
     firsts: &Units,

@@ -15,7 +15,6 @@ use Rattle.book.specs.Format.{Contents, Outcome, pick, add-done}
 use Rattle.book.specs.Format.{refused as book-refused}
 use Rattle.book.specs.Meaning.{conflict-of, unit-of}
 use Rattle.book.specs.Book.{marked, contents-of, Flags, Valid, empty-book, outcome-by, ReadAs}
-use Rattle.book.specs.Reader.{RoomDone}
 use Rattle.book.specs.declared.Book.{Book}
 use Rattle.book.specs.declared.Cause.{Cause}
 use Rattle.book.specs.declared.Cause.the-variants.{Tangled}

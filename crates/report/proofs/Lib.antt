@@ -1,0 +1,6 @@
+pub mod WithinLaws
+pub mod Decimals
+pub mod NumberLaws
+pub mod TextLaws
+pub mod FindingsLaws
+pub mod ReportLaws

@@ -1,0 +1,98 @@
+/* Times the proved reader and judge against plain.c, on the same full books in the same run, and prints the ratios. Both sides read the
+   book's bytes each time and are built with -O3; no buffer is cleared beforehand. */
+#include "../include/deck.h"
+#include "books.h"
+#include "plain.h"
+#include <stdio.h>
+#include <time.h>
+
+enum { BOOKS = 24, ROUNDS = 4, REPEATS = 100 };
+
+static uint8_t books[BOOKS][BOOK_ROOM];
+static size_t lengths[BOOKS];
+static volatile uint64_t sink;
+
+static double now(void) {
+    struct timespec t;
+    clock_gettime(CLOCK_MONOTONIC, &t);
+    return (double)t.tv_sec * 1e6 + (double)t.tv_nsec / 1e3;
+}
+
+static void proved_read(const uint8_t *s, size_t n) { sink += deck_read(s, n).value; }
+
+static void plain_reads(const uint8_t *s, size_t n) {
+    plain_book b;
+    plain_read(s, n, &b);
+    sink += (uint64_t)b.n;
+}
+
+static void proved_judge(const uint8_t *s, size_t n) {
+    uint8_t order[128], cycle[128];
+    sink += deck_judge(s, n, order, 128, cycle, 128).count;
+}
+
+static void plain_judges(const uint8_t *s, size_t n) {
+    uint8_t order[128], cycle[128];
+    plain_book b;
+    int count = 0;
+    if (!plain_read(s, n, &b).number)
+        plain_judge(&b, order, cycle, &count);
+    sink += (uint64_t)count;
+}
+
+/* The time of one call on each book, in microseconds a book. */
+static double timed(void (*call)(const uint8_t *, size_t)) {
+    double from = now();
+    for (int i = 0; i < ROUNDS; i++)
+        for (int j = 0; j < BOOKS; j++)
+            call(books[j], lengths[j]);
+    return (now() - from) / (ROUNDS * BOOKS);
+}
+
+/* The least of many times, taken in turn, so that other work on the machine disturbs both alike. */
+static void compare(const char *label, void (*proved)(const uint8_t *, size_t), void (*plain)(const uint8_t *, size_t)) {
+    double p = 1e9, c = 1e9;
+    for (int k = 0; k < REPEATS; k++) {
+        double t = timed(proved), u = timed(plain);
+        p = t < p ? t : p;
+        c = u < c ? u : c;
+    }
+    printf("%-34s proved %7.2f us, plain C %7.2f us, ratio %.2f\n", label, p, c, p / c);
+}
+
+/* Full books of 128 steps in 16 runs that the judge passes, or does not. */
+static int fill(const shape *f, int want, uint64_t seed) {
+    source s = {seed};
+    int found = 0;
+    for (int tries = 0; found < BOOKS && tries < 200000; tries++) {
+        uint8_t order[128], cycle[128];
+        plain_book b;
+        int count;
+        lengths[found] = make_book(&s, f, books[found]);
+        if (plain_read(books[found], lengths[found], &b).number == 0 && plain_judge(&b, order, cycle, &count) == want)
+            found++;
+    }
+    return found == BOOKS;
+}
+
+int main(void) {
+    static const struct {
+        const char *label;
+        unsigned cuts, positions, burst;
+        int passed;
+    } cases[] = {
+        {"uncut, passed", 0, 40, 8, 1},      {"uncut, tangled", 0, 40, 4, 0},   {"half cut, passed", 50, 150, 4, 1},
+        {"half cut, tangled", 50, 30, 2, 0}, {"fully cut, passed", 100, 20, 2, 1}, {"fully cut, much dependence", 100, 4, 2, 1},
+    };
+    for (size_t k = 0; k < sizeof cases / sizeof *cases; k++) {
+        shape f = {.runs = 16, .fixed = 8, .steps = 8, .kinds = 4, .pairs = 50, .positions = cases[k].positions, .cuts = cases[k].cuts, .burst = cases[k].burst};
+        if (!fill(&f, cases[k].passed, 7 + k)) {
+            printf("%-34s no such books found\n", cases[k].label);
+            continue;
+        }
+        compare(cases[k].label, proved_judge, plain_judges);
+        if (cases[k].cuts == 100)
+            compare("  reading alone", proved_read, plain_reads);
+    }
+    return 0;
+}

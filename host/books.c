@@ -1,0 +1,117 @@
+/* Deck books for tests and benchmarks, made from a seed. */
+#include "books.h"
+#include <string.h>
+
+uint64_t draw(source *s) {
+    uint64_t z = s->state += 0x9e3779b97f4a7c15ull;
+    z = (z ^ (z >> 30)) * 0xbf58476d1ce4e5b9ull;
+    z = (z ^ (z >> 27)) * 0x94d049bb133111ebull;
+    return z ^ (z >> 31);
+}
+
+unsigned below(source *s, unsigned n) { return (unsigned)(draw(s) % n); }
+
+size_t make_book(source *s, const shape *f, uint8_t *out) {
+    uint8_t *o = out;
+    unsigned length[16], left[16], total = 0, open = 0;
+    for (unsigned a = 0; a < f->kinds; a++)
+        for (unsigned b = a; b < f->kinds; b++)
+            if (below(s, 100) < f->pairs) {
+                *o++ = 0x43;
+                *o++ = (uint8_t)a;
+                *o++ = (uint8_t)b;
+            }
+    for (unsigned r = 0; r < f->runs; r++) {
+        *o++ = 0x52;
+        *o++ = (uint8_t)r;
+        length[r] = f->fixed ? f->fixed : f->steps - below(s, below(s, 8) ? (f->steps + 1) / 2 : f->steps + 1);
+        if (total + length[r] > 128)
+            length[r] = 128 - total;
+        total += length[r];
+        for (unsigned i = 0; i < length[r]; i++) {
+            unsigned position = below(s, f->positions);
+            *o++ = 0x53;
+            *o++ = (uint8_t)below(s, f->kinds);
+            *o++ = (uint8_t)(position >> 8);
+            *o++ = (uint8_t)position;
+        }
+    }
+    for (unsigned r = 0; r < f->runs; r++)
+        for (unsigned j = 1; j < length[r]; j++)
+            for (unsigned v = 0; v < f->runs; v++)
+                if (v != r && below(s, 100) < f->cuts) {
+                    *o++ = 0x42;
+                    *o++ = (uint8_t)r;
+                    *o++ = (uint8_t)j;
+                    *o++ = (uint8_t)v;
+                }
+    for (unsigned r = 0; r < f->runs; r++) {
+        left[r] = length[r];
+        open += length[r];
+    }
+    if (f->undone && below(s, 100) < f->undone)
+        open = below(s, open + 1);
+    while (open > 0) {
+        unsigned r = below(s, f->runs), n = 1 + below(s, f->burst);
+        while (n-- > 0 && left[r] > 0 && open > 0) {
+            *o++ = 0x48;
+            *o++ = (uint8_t)r;
+            left[r]--;
+            open--;
+        }
+    }
+    *o++ = 0x45;
+    return (size_t)(o - out);
+}
+
+shape draw_shape(source *s) {
+    shape f = {0};
+    int large = below(s, 4) == 0;
+    f.runs = below(s, 20) == 0 ? below(s, 2) : 2 + below(s, large ? 15 : 3);
+    f.steps = large ? 1 + below(s, 32) : 2 + below(s, 5);
+    f.kinds = 1 + below(s, large ? 16 : 4);
+    f.pairs = 20 + below(s, 81);
+    f.positions = below(s, 8) == 0 ? 65536 : 1 + below(s, large ? 100 : 5);
+    f.cuts = below(s, 4) == 0 ? 0 : below(s, 101);
+    f.burst = 1 + below(s, below(s, 2) ? 2 : f.steps);
+    f.undone = 25;
+    return f;
+}
+
+size_t damage(source *s, uint8_t *book, size_t len) {
+    static const uint8_t commands[] = {0x43, 0x52, 0x53, 0x42, 0x48, 0x45};
+    unsigned times = 1 + below(s, 3);
+    while (times-- > 0) {
+        size_t at = len ? draw(s) % len : 0;
+        switch (below(s, 6)) {
+        case 0:
+            if (len)
+                book[at] = (uint8_t)draw(s);
+            break;
+        case 1:
+            if (len)
+                book[at] = commands[below(s, 6)];
+            break;
+        case 2:
+            if (len)
+                book[at] = (uint8_t)(book[at] + (below(s, 2) ? 1 : 255));
+            break;
+        case 3:
+            len = at;
+            break;
+        case 4:
+            if (len) {
+                memmove(book + at, book + at + 1, len - at - 1);
+                len--;
+            }
+            break;
+        default:
+            if (len < BOOK_ROOM) {
+                memmove(book + at + 1, book + at, len - at);
+                book[at] = below(s, 2) ? commands[below(s, 6)] : (uint8_t)below(s, 20);
+                len++;
+            }
+        }
+    }
+    return len;
+}

@@ -1,0 +1,39 @@
+/* Deck books for tests and benchmarks, made from a seed. */
+#ifndef BOOKS_H
+#define BOOKS_H
+#include <stddef.h>
+#include <stdint.h>
+
+enum { BOOK_ROOM = 20000 };
+
+typedef struct {
+    uint64_t state;
+} source;
+
+uint64_t draw(source *s);
+
+/* A number from 0 to n - 1. */
+unsigned below(source *s, unsigned n);
+
+typedef struct {
+    unsigned runs; /* as many runs */
+    unsigned steps; /* steps in each run, at most */
+    unsigned fixed; /* each run has just so many */
+    unsigned kinds; /* kinds below this */
+    unsigned pairs; /* percent of the pairs of kinds that conflict */
+    unsigned positions; /* positions below this */
+    unsigned cuts; /* percent of the cuts */
+    unsigned burst; /* done steps of one run in a row, at most */
+    unsigned undone; /* percent of the histories that stop early */
+} shape;
+
+/* The length of a legal book of that shape, which goes to out, of BOOK_ROOM bytes. */
+size_t make_book(source *s, const shape *f, uint8_t *out);
+
+/* A shape drawn by chance, small or large. */
+shape draw_shape(source *s);
+
+/* The new length of a book with one or more bytes changed, left out or put in. */
+size_t damage(source *s, uint8_t *book, size_t len);
+
+#endif

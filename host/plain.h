@@ -1,0 +1,58 @@
+/* Document 01 in plain C, for tests and benchmarks: an implementation of its own, which shares no text with the proved code. */
+#ifndef PLAIN_H
+#define PLAIN_H
+#include <stddef.h>
+#include <stdint.h>
+
+enum { PLAIN_RUNS = 16, PLAIN_RUN_STEPS = 32, PLAIN_STEPS = 128, PLAIN_KINDS = 16, PLAIN_BYTES = 16384 };
+
+typedef struct {
+    uint8_t conflicts[PLAIN_KINDS][PLAIN_KINDS]; /* both ways round */
+    uint8_t cut[PLAIN_RUNS][PLAIN_RUN_STEPS + 1][PLAIN_RUNS]; /* cut[r][j][o]: in r after step j, as seen by o */
+    uint8_t kind[PLAIN_RUNS][PLAIN_RUN_STEPS];
+    uint16_t position[PLAIN_RUNS][PLAIN_RUN_STEPS];
+    int length[PLAIN_RUNS];
+    int done[PLAIN_RUNS];
+    uint8_t history[PLAIN_STEPS];
+    int runs, steps, n;
+} plain_book;
+
+typedef struct {
+    int number; /* 0: accepted; else document 01's number */
+    size_t place;
+} plain_refusal;
+
+plain_refusal plain_read(const uint8_t *s, size_t len, plain_book *b);
+
+/* The length of the book's bytes, which go to out. */
+size_t plain_write(const plain_book *b, uint8_t *out);
+
+/* 1 passed, with n run numbers in order; 0 tangled, with *count places in cycle. */
+int plain_judge(const plain_book *b, uint8_t *order, uint8_t *cycle, int *count);
+
+int plain_serial(const plain_book *b);
+int plain_atomic(const plain_book *b);
+int plain_relserial(const plain_book *b);
+int plain_conflict(const plain_book *b);
+
+int plain_order_check(const plain_book *b, const uint8_t *list, size_t len);
+int plain_cycle_check(const plain_book *b, const uint8_t *list, size_t len);
+
+/* The arcs from place x to place y: 1 for I, 2 for D, 4 for F, 8 for B, added up. */
+int plain_arc(const plain_book *b, size_t x, size_t y);
+
+/* The gate: the book with the kept list as its history, and the withdrawn runs. */
+typedef struct {
+    plain_book book;
+    int withdrawn[PLAIN_RUNS];
+} plain_gate;
+
+void plain_open(const plain_book *b, plain_gate *g);
+
+/* The answer to a step: its place, or minus the number of the refusal. */
+int plain_step(plain_gate *g, int r);
+
+/* 0, or minus the number of the refusal. */
+int plain_withdraw(plain_gate *g, int r);
+
+#endif

@@ -1,0 +1,191 @@
+//! Deck books for Rust: safe calls over the proved library (include/deck.h).
+
+use std::os::raw::c_uchar;
+
+#[repr(C)]
+struct RawJudgement {
+    number: u64,
+    place: u64,
+    verdict: u64,
+    count: u64,
+}
+
+#[repr(C)]
+struct RawAnswer {
+    number: u64,
+    place: u64,
+    value: u64,
+}
+
+extern "C" {
+    fn deck_read(book: *const c_uchar, len: usize) -> RawAnswer;
+    fn deck_judge(
+        book: *const c_uchar,
+        len: usize,
+        order: *mut c_uchar,
+        order_len: usize,
+        cycle: *mut c_uchar,
+        cycle_len: usize,
+    ) -> RawJudgement;
+    fn deck_serial(book: *const c_uchar, len: usize) -> RawAnswer;
+    fn deck_atomic(book: *const c_uchar, len: usize) -> RawAnswer;
+    fn deck_relserial(book: *const c_uchar, len: usize) -> RawAnswer;
+    fn deck_conflict(book: *const c_uchar, len: usize) -> RawAnswer;
+    fn deck_check_order(book: *const c_uchar, len: usize, list: *const c_uchar, list_len: usize) -> RawAnswer;
+    fn deck_check_cycle(book: *const c_uchar, len: usize, list: *const c_uchar, list_len: usize) -> RawAnswer;
+    fn deck_arc(book: *const c_uchar, len: usize, from: usize, to: usize) -> RawAnswer;
+    fn deck_write(book: *const c_uchar, len: usize, out: *mut c_uchar, out_len: usize) -> RawAnswer;
+}
+
+/// Why a book was turned away: document 01's number, and the offset at which it was found (0 where it has none).
+#[derive(Clone, Copy, Debug, PartialEq, Eq)]
+pub struct Refusal {
+    pub number: u64,
+    pub place: u64,
+}
+
+/// What the judge says of a history.
+#[derive(Clone, Debug, PartialEq, Eq)]
+pub enum Verdict {
+    /// The run numbers of an equivalent relatively serial order.
+    Passed(Vec<u8>),
+    /// The places of a cycle of the relative serialization graph.
+    Tangled(Vec<u8>),
+}
+
+fn answered(a: RawAnswer) -> Result<u64, Refusal> {
+    if a.number == 0 {
+        Ok(a.value)
+    } else {
+        Err(Refusal { number: a.number, place: a.place })
+    }
+}
+
+/// The number of done steps of a book.
+pub fn read(book: &[u8]) -> Result<u64, Refusal> {
+    answered(unsafe { deck_read(book.as_ptr(), book.len()) })
+}
+
+/// The verdict on a book's history, with its evidence.
+pub fn judge(book: &[u8]) -> Result<Verdict, Refusal> {
+    let (mut order, mut cycle) = ([0u8; 128], [0u8; 128]);
+    let j = unsafe { deck_judge(book.as_ptr(), book.len(), order.as_mut_ptr(), 128, cycle.as_mut_ptr(), 128) };
+    match j.verdict {
+        1 => Ok(Verdict::Passed(order[..j.count as usize].to_vec())),
+        2 => Ok(Verdict::Tangled(cycle[..j.count as usize].to_vec())),
+        _ => Err(Refusal { number: j.number, place: j.place }),
+    }
+}
+
+/// Whether each run's done steps stand together.
+pub fn serial(book: &[u8]) -> Result<bool, Refusal> {
+    Ok(answered(unsafe { deck_serial(book.as_ptr(), book.len()) })? == 1)
+}
+
+/// Whether the history is relatively atomic.
+pub fn relatively_atomic(book: &[u8]) -> Result<bool, Refusal> {
+    Ok(answered(unsafe { deck_atomic(book.as_ptr(), book.len()) })? == 1)
+}
+
+/// Whether the history is relatively serial.
+pub fn relatively_serial(book: &[u8]) -> Result<bool, Refusal> {
+    Ok(answered(unsafe { deck_relserial(book.as_ptr(), book.len()) })? == 1)
+}
+
+/// Whether the history is conflict serializable.
+pub fn conflict_serializable(book: &[u8]) -> Result<bool, Refusal> {
+    Ok(answered(unsafe { deck_conflict(book.as_ptr(), book.len()) })? == 1)
+}
+
+/// Whether a list of run numbers is a relatively serial order that agrees with the history on all conflicting pairs.
+pub fn check_order(book: &[u8], list: &[u8]) -> Result<bool, Refusal> {
+    Ok(answered(unsafe { deck_check_order(book.as_ptr(), book.len(), list.as_ptr(), list.len()) })? == 1)
+}
+
+/// Whether a list of places is a cycle of the history's graph.
+pub fn check_cycle(book: &[u8], list: &[u8]) -> Result<bool, Refusal> {
+    Ok(answered(unsafe { deck_check_cycle(book.as_ptr(), book.len(), list.as_ptr(), list.len()) })? == 1)
+}
+
+/// Whether any arc of the history's graph leads from one place to another.
+pub fn arc(book: &[u8], from: usize, to: usize) -> Result<bool, Refusal> {
+    Ok(answered(unsafe { deck_arc(book.as_ptr(), book.len(), from, to) })? == 1)
+}
+
+/// The book, written anew from what was read of it.
+pub fn write(book: &[u8]) -> Result<Vec<u8>, Refusal> {
+    let mut out = vec![0u8; book.len()];
+    let n = answered(unsafe { deck_write(book.as_ptr(), book.len(), out.as_mut_ptr(), out.len()) })?;
+    out.truncate(n as usize);
+    Ok(out)
+}
+
+#[cfg(test)]
+mod tests {
+    use super::*;
+
+    fn book(name: &str) -> Vec<u8> {
+        let path = format!("{}/../../tests/books/{}.hex", env!("CARGO_MANIFEST_DIR"), name);
+        let text = std::fs::read_to_string(path).unwrap();
+        text.lines()
+            .flat_map(|line| line.split('#').next().unwrap().split_whitespace())
+            .map(|byte| u8::from_str_radix(byte, 16).unwrap())
+            .collect()
+    }
+
+    #[test]
+    fn row_3_passes_with_another_order() {
+        let b = book("row03");
+        assert_eq!(judge(&b), Ok(Verdict::Passed(vec![0, 0, 1, 1])));
+        assert_eq!(check_order(&b, &[0, 0, 1, 1]), Ok(true));
+        assert_eq!(check_order(&b, &[0, 1, 0, 1]), Ok(false));
+        assert_eq!(conflict_serializable(&b), Ok(true));
+        assert_eq!(relatively_serial(&b), Ok(false));
+    }
+
+    #[test]
+    fn row_4_is_tangled_with_a_cycle() {
+        let b = book("row04");
+        let Ok(Verdict::Tangled(cycle)) = judge(&b) else { panic!("passed") };
+        assert_eq!(check_cycle(&b, &cycle), Ok(true));
+        assert_eq!(check_cycle(&b, &[1, 3]), Ok(true));
+        assert_eq!(check_cycle(&b, &[0, 3]), Ok(false));
+    }
+
+    #[test]
+    fn row_6_is_relatively_atomic_by_its_cut() {
+        let b = book("row06");
+        assert_eq!(serial(&b), Ok(false));
+        assert_eq!(relatively_atomic(&b), Ok(true));
+        assert_eq!(judge(&b), Ok(Verdict::Passed(vec![0, 1, 1, 0])));
+    }
+
+    #[test]
+    fn figure_3_has_the_arcs_that_001_names() {
+        let b = book("figure3");
+        // w1[x] r2[x] r3[z] w2[y] r3[y] r1[z] are places 0 to 5
+        assert_eq!(arc(&b, 5, 1), Ok(true)); // F: r1[z] to r2[x]
+        assert_eq!(arc(&b, 3, 2), Ok(true)); // B: w2[y] to r3[z]
+        assert_eq!(arc(&b, 0, 1), Ok(true)); // D
+        assert_eq!(arc(&b, 0, 5), Ok(true)); // I
+        assert_eq!(arc(&b, 1, 0), Ok(false));
+        assert_eq!(arc(&b, 0, 6), Ok(false));
+    }
+
+    #[test]
+    fn refusals_carry_number_and_place() {
+        assert_eq!(read(&[]), Err(Refusal { number: 3, place: 0 }));
+        assert_eq!(read(&[0x45]), Ok(0));
+        assert_eq!(judge(&[0x45, 0x45]), Err(Refusal { number: 11, place: 1 }));
+        assert_eq!(read(&vec![0; 16385]), Err(Refusal { number: 1, place: 0 }));
+        assert_eq!(serial(&[0x52]), Err(Refusal { number: 3, place: 0 }));
+    }
+
+    #[test]
+    fn a_book_comes_back_byte_for_byte() {
+        for name in ["row01", "row09", "figure1-rs", "figure4"] {
+            let b = book(name);
+            assert_eq!(write(&b), Ok(b));
+        }
+    }
+}
