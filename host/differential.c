@@ -4,9 +4,10 @@
 #include "books.h"
 #include "plain.h"
 #include <stdio.h>
-#include <stdlib.h>
 #include <string.h>
 
+enum { BOOKS = 6000 };
+enum { CALLS = 200 }; /* in a list, at most */
 enum { ROOM = 200 }; /* of each buffer, filled beforehand so that a stray byte shows */
 
 static const char *fault;
@@ -93,6 +94,47 @@ static void compare_writer(source *s, const uint8_t *book, size_t len, plain_ref
     }
 }
 
+/* Replays a list of calls on the proved gate and on the plain one, and checks demand 3's sentences on the answers. */
+static void compare_gate(source *s, const uint8_t *book, size_t len, const plain_book *b, plain_refusal r) {
+    static uint8_t calls[2 * CALLS + 1], answers[2 * CALLS + 8];
+    int tangled[256] = {0}, withdrawn[256] = {0};
+    plain_gate g;
+    size_t n = below(s, CALLS), bad = 2 * n;
+    for (size_t i = 0; i < n; i++) {
+        calls[2 * i] = below(s, 8) ? 0x53 : 0x57;
+        calls[2 * i + 1] = (uint8_t)below(s, (unsigned)b->runs + 1);
+    }
+    if (n && below(s, 10) == 0)
+        calls[bad = 2 * (size_t)below(s, (unsigned)n)] = (uint8_t)(0x58 + below(s, 100));
+    int cut = below(s, 10) == 0;
+    memset(answers, 0x33, sizeof answers);
+    deck_answer a = deck_replay(book, len, calls, 2 * n + (size_t)cut, answers, sizeof answers);
+    if (r.number || bad < 2 * n || cut) {
+        expect(a.number == (uint64_t)(r.number ? r.number : 24) && a.place == (r.number ? r.place : bad) && a.value == 0, "gate: refused list");
+        expect(untouched(answers, 0, sizeof answers, 0x33), "gate: answers of a refused list");
+        return;
+    }
+    expect(a.number == 0 && a.place == 0 && a.value == n && untouched(answers, 2 * n, sizeof answers, 0x33), "gate: answer");
+    plain_open(b, &g);
+    for (size_t i = 0; i < n; i++) {
+        int run = calls[2 * i + 1], step = calls[2 * i] == 0x53, want = step ? plain_step(&g, run) : plain_withdraw(&g, run);
+        int kind = want < 0 ? 2 : step ? 0 : 1, value = want < 0 ? -want : step ? want : 0;
+        expect(answers[2 * i] == kind && answers[2 * i + 1] == value, "gate: an answer");
+        expect(!(step && kind == 0 && (tangled[run] || withdrawn[run])), "gate: a tangled or withdrawn run admitted later");
+        tangled[run] |= step && want == -23;
+        withdrawn[run] |= !step && want >= 0;
+    }
+    static uint8_t kept[BOOK_ROOM];
+    uint8_t order[PLAIN_STEPS], cycle[PLAIN_STEPS];
+    size_t size = plain_write(&g.book, kept);
+    expect(deck_judge(kept, size, order, sizeof order, cycle, sizeof cycle).verdict == DECK_PASSED, "gate: the book with the kept list is passed");
+    if (n) {
+        memset(answers, 0x33, sizeof answers);
+        a = deck_replay(book, len, calls, 2 * n, answers, below(s, (unsigned)(2 * n)));
+        expect(a.number == 25 && a.place == 0 && a.value == 0 && untouched(answers, 0, sizeof answers, 0x33), "gate: short buffer of answers");
+    }
+}
+
 static void compare(source *s, const uint8_t *book, size_t len) {
     plain_book b;
     uint8_t found[PLAIN_STEPS], list[ROOM];
@@ -118,13 +160,14 @@ static void compare(source *s, const uint8_t *book, size_t len) {
     if (!r.number && !passed)
         compare_answer(deck_check_cycle(book, len, found, (size_t)count), r, 1, "cycle check of the judge's cycle");
     compare_writer(s, book, len, r);
+    compare_gate(s, book, len, &b, r);
 }
 
-int main(int argc, char **argv) {
+int main(void) {
     static uint8_t book[BOOK_ROOM];
     source s = {20261115};
-    long books = argc > 1 ? atol(argv[1]) : 4000, passed = 0, failed = 0;
-    for (long k = 0; k < books; k++) {
+    long passed = 0, failed = 0;
+    for (long k = 0; k < BOOKS; k++) {
         shape f = draw_shape(&s);
         size_t len = make_book(&s, &f, book);
         if (k % 2)

@@ -1,4 +1,4 @@
-/* Deck books for C: reader, judge, class tests, evidence checks, arc test and writer.
+/* Deck books for C: reader, judge, class tests, evidence checks, arc test, writer and the replay of a gate.
 
    A book, a list and a buffer are each a pointer and a length; nothing is kept after a call returns, and nothing is allocated. A length of 0
    goes with any pointer but a null one. A call reads only the bytes of its books and lists, and writes only to its buffers. The buffers of
@@ -11,8 +11,10 @@
       4  command out of its group's order            11  bytes after 45
       5  kind above 15, or a above b                 12  the judge's order or cycle buffer under 128 bytes
       6  pair or triple not above the one before     13  the writer's buffer shorter than the book
-      7  wrong run
-   `place` is the offset in the book at which 1 to 11 were found, and 0 otherwise. A refused call changes no buffer. */
+      7  wrong run                                   24  the list of calls has no call, or a cut-off one, at an offset
+                                                     25  the buffer of answers under two bytes a call
+   `place` is the offset in the book at which 1 to 11 were found, the offset in the list of calls for 24, and 0 otherwise. A refused call
+   changes no buffer. */
 #ifndef DECK_H
 #define DECK_H
 #include <stddef.h>
@@ -63,6 +65,12 @@ deck_answer deck_arc(const uint8_t *book, size_t book_len, size_t from, size_t t
 
 /* Writes the book anew from what was read of it: its bytes to the front of `out`, all other bytes unchanged. The value is its length. */
 deck_answer deck_write(const uint8_t *book, size_t book_len, uint8_t *out, size_t out_len);
+
+/* Opens a gate over the book, whose own history plays no part, and makes the calls in turn on it. Two bytes a call: 0x53 and a run steps it,
+   0x57 and a run withdraws it. Two bytes an answer, in order, to the front of `answers`, all other bytes unchanged: 0 and the place of an
+   admitted step; 1 and 0 for a withdrawn run; 2 and the number of a refusal: 20 run not declared, 21 run withdrawn, 22 all steps of the run
+   kept, 23 tangled. The value is the number of calls made. */
+deck_answer deck_replay(const uint8_t *book, size_t book_len, const uint8_t *calls, size_t calls_len, uint8_t *answers, size_t answers_len);
 
 #ifdef __cplusplus
 }

@@ -35,6 +35,14 @@ extern "C" {
     fn deck_check_cycle(book: *const c_uchar, len: usize, list: *const c_uchar, list_len: usize) -> RawAnswer;
     fn deck_arc(book: *const c_uchar, len: usize, from: usize, to: usize) -> RawAnswer;
     fn deck_write(book: *const c_uchar, len: usize, out: *mut c_uchar, out_len: usize) -> RawAnswer;
+    fn deck_replay(
+        book: *const c_uchar,
+        len: usize,
+        calls: *const c_uchar,
+        calls_len: usize,
+        answers: *mut c_uchar,
+        answers_len: usize,
+    ) -> RawAnswer;
 }
 
 /// Why a book was turned away: document 01's number, and the offset at which it was found (0 where it has none).
@@ -120,6 +128,46 @@ pub fn write(book: &[u8]) -> Result<Vec<u8>, Refusal> {
     Ok(out)
 }
 
+/// A call to the gate.
+#[derive(Clone, Copy, Debug, PartialEq, Eq)]
+pub enum Call {
+    Step(u8),
+    Withdraw(u8),
+}
+
+/// What the gate answers.
+#[derive(Clone, Copy, Debug, PartialEq, Eq)]
+pub enum Reply {
+    /// The place of an admitted step.
+    Place(u8),
+    Withdrawn,
+    /// Document 01's number: 20 not declared, 21 withdrawn, 22 all steps kept, 23 tangled.
+    Refused(u8),
+}
+
+/// The answers of a gate newly opened over the book to a list of calls, made in turn.
+pub fn replay(book: &[u8], calls: &[Call]) -> Result<Vec<Reply>, Refusal> {
+    let bytes: Vec<u8> = calls
+        .iter()
+        .flat_map(|call| match *call {
+            Call::Step(run) => [0x53, run],
+            Call::Withdraw(run) => [0x57, run],
+        })
+        .collect();
+    let mut answers = vec![0u8; bytes.len()];
+    answered(unsafe {
+        deck_replay(book.as_ptr(), book.len(), bytes.as_ptr(), bytes.len(), answers.as_mut_ptr(), answers.len())
+    })?;
+    Ok(answers
+        .chunks(2)
+        .map(|answer| match answer[0] {
+            0 => Reply::Place(answer[1]),
+            1 => Reply::Withdrawn,
+            _ => Reply::Refused(answer[1]),
+        })
+        .collect())
+}
+
 #[cfg(test)]
 mod tests {
     use super::*;
@@ -179,6 +227,16 @@ mod tests {
         assert_eq!(judge(&[0x45, 0x45]), Err(Refusal { number: 11, place: 1 }));
         assert_eq!(read(&vec![0; 16385]), Err(Refusal { number: 1, place: 0 }));
         assert_eq!(serial(&[0x52]), Err(Refusal { number: 3, place: 0 }));
+    }
+
+    #[test]
+    fn the_gate_answers_as_in_document_01() {
+        use Call::{Step, Withdraw};
+        use Reply::{Place, Refused, Withdrawn};
+        let calls = [Step(0), Step(1), Step(1), Step(0), Withdraw(0), Step(0), Step(1), Step(2)];
+        let answers = [Place(0), Place(1), Place(2), Refused(23), Withdrawn, Refused(21), Refused(22), Refused(20)];
+        assert_eq!(replay(&book("row02"), &calls), Ok(answers.to_vec()));
+        assert_eq!(replay(&[], &calls), Err(Refusal { number: 3, place: 0 }));
     }
 
     #[test]
