@@ -1,4 +1,5 @@
-/* Times the proved reader and judge against plain.c, on the same full books in the same run, and prints the ratios. Both sides read the
+/* Times the proved reader and judge against plain.c, on the same full books in the same run, and the gate's step against the judge; prints
+   the ratios. Both sides read the
    book's bytes each time and are built with -O3; no buffer is cleared beforehand. */
 #include "../include/deck.h"
 #include "books.h"
@@ -31,6 +32,24 @@ static void proved_judge(const uint8_t *s, size_t n) {
     sink += deck_judge(s, n, order, 128, cycle, 128).count;
 }
 
+/* The history as step calls, all of them or all but the last. */
+static void replayed(const uint8_t *s, size_t n, int left_out) {
+    static uint8_t answers[256];
+    uint8_t calls[256];
+    size_t m = 0;
+    plain_book b;
+    plain_read(s, n, &b);
+    for (int p = 0; p + left_out < b.n; p++) {
+        calls[m++] = 0x53;
+        calls[m++] = b.history[p];
+    }
+    sink += deck_replay(s, n, calls, m, answers, sizeof answers).value;
+}
+
+static void proved_replay(const uint8_t *s, size_t n) { replayed(s, n, 0); }
+
+static void proved_replay_before(const uint8_t *s, size_t n) { replayed(s, n, 1); }
+
 static void plain_judges(const uint8_t *s, size_t n) {
     uint8_t order[128], cycle[128];
     plain_book b;
@@ -58,6 +77,18 @@ static void compare(const char *label, void (*proved)(const uint8_t *, size_t), 
         c = u < c ? u : c;
     }
     printf("%-34s proved %7.2f us, plain C %7.2f us, ratio %.2f\n", label, p, c, p / c);
+}
+
+/* The gate's step at 127 kept steps, as the difference of two replays, beside the judge on the same books. */
+static void compare_step(void) {
+    double all = 1e9, before = 1e9, judge = 1e9;
+    for (int k = 0; k < REPEATS / 4; k++) {
+        double t = timed(proved_replay), u = timed(proved_replay_before), v = timed(proved_judge);
+        all = t < all ? t : all;
+        before = u < before ? u : before;
+        judge = v < judge ? v : judge;
+    }
+    printf("%-34s proved %7.2f us, judge   %7.2f us, ratio %.2f\n", "  a step of the gate", all - before, judge, (all - before) / judge);
 }
 
 /* Full books of 128 steps in 16 runs that the judge passes, or does not. */
@@ -91,8 +122,10 @@ int main(void) {
             continue;
         }
         compare(cases[k].label, proved_judge, plain_judges);
-        if (cases[k].cuts == 100)
+        if (cases[k].cuts == 100) {
             compare("  reading alone", proved_read, plain_reads);
+            compare_step();
+        }
     }
     return 0;
 }

@@ -1,6 +1,6 @@
 // Tables of bits. A row is ROW_WORDS words of 64 bits, and a table has as many rows as a row has bits.
 ghost use mathlib.Core.Path.{_≡_};
-ghost use Prim.Native.Nat.{ℕ, _<_, _≤_};
+ghost use Prim.Native.Nat.{ℕ, _<_};
 ghost use lib.ListN.{length};
 ghost use lib.Dec.{eqb};
 ghost use Rattle.bits.specs.Table.{row-words, row-bits, rows, table-words, bit, bit-at};
@@ -25,11 +25,11 @@ pub enum Found {
 }
 
 // These two do nothing: what owning a table or a row tells of its length, told to a function that has it by `&mut`.
-pub fn sized(t: Table)
+fn sized(t: Table)
     ensures { λ r. ⌜ length t ≡ table-words ⌝ }
 {}
 
-pub fn sized_row(m: Row)
+fn sized_row(m: Row)
     ensures { λ r. ⌜ length m ≡ row-words ⌝ }
 {}
 

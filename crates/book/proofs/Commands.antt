@@ -1,15 +1,15 @@
 -- What each way through a command's function shows: the tests that led there make the answer the format's.
-use Prim.Native.Nat.{ℕ, zero, suc, _+_, _*_, _-_, _/_, _%_, _≤_, _<_, zero-le}
+use Prim.Native.Nat.{ℕ, _+_, _*_, _-_, _/_, _%_, _≤_, _<_}
 use mathlib.Core.Path.{_≡_, refl, ap, sym, _∙_}
-use mathlib.Core.List.{List, [], _∷_}
+use mathlib.Core.List.{List}
 use native.Mathlib.Omega.{arith}
 use borrow.Author.Tests.{lt-ltb, le-ltb, le-leb, lt-leb, eq-eqb, ne-eqb}
 use lib.ListN.{length, getD, drop}
 use lib.Dec.{leb}
 use Rattle.theory.specs.History.{count}
-use Rattle.book.specs.Format.{State, Move, Test, last, lengths, checks, above-pair, above-cut, add-pair, add-run, add-step, add-cut, add-done, on, over, refused, accepted, pair-at, run-at, step-at, cut-at, done-at, end-at, pair-tests, run-tests, step-tests, cut-tests, done-tests, command-at}
+use Rattle.book.specs.Format.{State, Move, Test, last, lengths, checks, above-pair, above-cut, add-pair, add-run, add-step, add-cut, add-done, on, over, refused, pair-at, run-at, step-at, cut-at, done-at, end-at, pair-tests, run-tests, step-tests, cut-tests, done-tests, command-at}
 use Rattle.book.specs.Book.{contents-of}
-use Rattle.book.specs.Reader.{so-far, state-of, Underway, Any, Lens, Tables, Inside, Decides, RoomFlag, RoomStep, RoomDone}
+use Rattle.book.specs.Reader.{so-far, state-of, Underway, Any, Lens, Tables, Inside, Decides}
 use Rattle.book.specs.declared.Cause.{Cause}
 use Rattle.book.specs.declared.Cause.the-variants.{NoCommand, EndsEarly, OutOfOrder, WrongKind, NotRising, WrongRun, TooManyRuns, RunTooLong, TooManySteps, WrongCut, NoStepLeft, BytesAfterEnd}
 use Rattle.book.specs.declared.Book.{Book}

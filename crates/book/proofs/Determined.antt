@@ -1,16 +1,16 @@
 -- A valid book is determined by what it means: two valid books of the same contents are equal in every byte.
-use Prim.Native.Nat.{ℕ, zero, suc, _+_, _*_, _/_, _%_, _≤_, _<_, zero-le}
+use Prim.Native.Nat.{ℕ, suc, _+_, _*_, _≤_}
 use mathlib.Core.Path.{_≡_, refl, ap, ap₂, sym, _∙_}
 use mathlib.Core.List.{List, [], _∷_, _++_, map}
 use native.Mathlib.Omega.{arith}
 use native.Mathlib.Decide.{ℕ-discrete}
 use borrow.Author.Tests.{eq-eqb, ne-eqb}
 use lib.ListN.{length, getD, take, drop, length-drop, take-append-drop}
-use lib.Seq.{ext-getD, length-take-le}
+use lib.Seq.{ext-getD}
 use Rattle.theory.specs.History.{count}
 use Rattle.theory.specs.Deck.{Pair, Step, Cut}
 use Rattle.book.specs.Format.{Contents, sum, lengths}
-use Rattle.book.specs.Book.{marked, pair-of, cut-of, steps-at, runs-of-lengths, steps-of, lengths-of, history-of, contents-of, Flags, Column, Valid}
+use Rattle.book.specs.Book.{marked, pair-of, cut-of, steps-at, runs-of-lengths, steps-of, lengths-of, history-of, contents-of, Column, Valid}
 use Rattle.book.specs.declared.Book.{Book}
 use Rattle.book.proofs.Lists.{getD-front}
 use Rattle.book.proofs.Books.{kinds-long, positions-long, steps-long, lengths-are, runs-are, sum-is, history-is, history-long}

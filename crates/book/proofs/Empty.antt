@@ -1,9 +1,9 @@
 -- The empty book is valid and holds nothing. Its tables' lengths are variables here, so that no long list is computed.
-use Prim.Native.Nat.{ℕ, zero, suc, _+_, _≤_, _<_, zero-le}
+use Prim.Native.Nat.{ℕ, zero, suc, _<_, zero-le}
 use mathlib.Core.Path.{_≡_, refl}
-use mathlib.Core.List.{List, [], _∷_}
+use mathlib.Core.List.{[]}
 use native.Mathlib.Omega.{arith}
-use lib.ListN.{length, getD, replicate, length-replicate}
+use lib.ListN.{getD, replicate, length-replicate}
 use Rattle.book.specs.Format.{sum, nothing}
 use Rattle.book.specs.Book.{marked, contents-of, Flags, Column, Valid, empty-book}
 use Rattle.book.specs.Reader.{at-start, so-far, Next, Underway}

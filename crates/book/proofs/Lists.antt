@@ -5,11 +5,11 @@ use mathlib.Core.List.{List, [], _∷_, _++_, map}
 use mathlib.Core.Bool.{Bool, true, false}
 use native.Mathlib.Omega.{arith}
 use native.Mathlib.Numerals.{add-one}
-use native.Mathlib.Decide.{decLt, decLe, ℕ-discrete}
+use native.Mathlib.Decide.{decLe, ℕ-discrete}
 use native.Mathlib.Nat.{add-zero}
 use borrow.Author.Tests.{lt-ltb, le-ltb, le-leb, lt-leb, eq-eqb, ne-eqb}
-use lib.ListN.{length, getD, take, drop, set, length-append, length-drop, length-set, List·getD-eq-default}
-use lib.Seq.{take-suc, take-suc-set, take-all, take-append-le, drop-append-le, length-take-le, getD-set-other, getD-take}
+use lib.ListN.{length, getD, take, drop, set, length-append, length-drop, length-set}
+use lib.Seq.{take-suc, take-suc-set, take-all, take-append-le, drop-append-le, length-take-le, getD-set-other}
 use lib.Dec.{ltb, leb, eqb}
 use Rattle.theory.specs.History.{suc-if, count}
 use Rattle.theory.specs.Deck.{Step}

@@ -7,19 +7,19 @@ use borrow.Author.Tests.{le-leb, lt-leb}
 use mir.Val.{Fits}
 use mir.Syntax.{w8}
 use lib.ListN.{length, getD, set}
-use Rattle.book.specs.Format.{Contents, State, Move, Outcome, on, over, refused, accepted, follow, command-at, read-from, read-commands, read}
-use Rattle.book.specs.Book.{contents-of, Valid, empty-book, ReadAs}
-use Rattle.book.specs.Reader.{at-start, past-pair, past-run, past-step, past-cut, past-done, accepted-as, Ahead, so-far, state-of, Underway, Tables, move-of, Room, RoomFlag, RoomStep, RoomDone, width, Decides}
+use Rattle.book.specs.Format.{Contents, Move, Outcome, on, over, refused, accepted, follow, command-at, read-from, read-commands, read}
+use Rattle.book.specs.Book.{contents-of, empty-book, ReadAs}
+use Rattle.book.specs.Reader.{at-start, past-pair, past-run, past-step, past-cut, past-done, accepted-as, Ahead, so-far, state-of, Underway, Tables, move-of, Room, RoomStep, RoomDone, width, Decides}
 use Rattle.book.specs.declared.Cause.{Cause}
 use Rattle.book.specs.declared.Cause.the-variants.{BookTooLong}
 use Rattle.book.specs.declared.Book.{Book}
 use Rattle.book.specs.declared.Progress.{Progress}
 use Rattle.book.specs.declared.Command.{Command}
 use Rattle.book.specs.declared.Command.the-variants.{Pair, Run, Step, Cut, Done, End, Refused}
-use Rattle.book.specs.declared.Answer.the-variants.{Refused as No, Accepted}
+use Rattle.book.specs.declared.Answer.the-variants.{Refused as No}
 use Rattle.book.specs.declared.Reading.{Reading}
 use Rattle.book.proofs.Lists.{next-more}
-use Rattle.book.proofs.Books.{Represents, with-pair, with-run, with-step, with-cut, with-done, represents-pair, represents-run, represents-step, represents-cut, represents-done, done-below-steps}
+use Rattle.book.proofs.Books.{with-pair, with-cut, represents-pair, represents-run, represents-step, represents-cut, represents-done, done-below-steps}
 use Rattle.book.proofs.Empty.{represents-empty, underway-empty, contents-empty}
 
 -- a refusal with the empty book

@@ -1,6 +1,6 @@
 // The deck book: its type and limits, the causes of refusal and their numbers, and the reader.
 ghost use mathlib.Core.Path.{_≡_};
-ghost use Prim.Native.Nat.{ℕ, _+_, _*_, _<_, _≤_};
+ghost use Prim.Native.Nat.{_+_, _*_, _<_, _≤_};
 ghost use lib.ListN.{length};
 ghost use Rattle.book.specs.Numbers.{number};
 ghost use Rattle.book.specs.Format.{kind-limit, run-limit, run-step-limit, step-limit, length-limit, refused, pair-at, run-at, step-at, cut-at, done-at, end-at, command-at, read-commands, read};

@@ -1,6 +1,6 @@
 -- The numbers of an answer, by the case that it is.
 use Prim.Native.Nat.{ℕ}
-use mathlib.Core.Path.{_≡_, sym, ap, _∙_}
+use mathlib.Core.Path.{_≡_, sym, _∙_}
 use mathlib.Core.List.{List}
 use Rattle.book.specs.Numbers.{number}
 use Rattle.book.specs.Format.{read, refused, accepted}

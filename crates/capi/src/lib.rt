@@ -12,7 +12,7 @@ ghost use Rattle.theory.specs.History.{Serial};
 ghost use Rattle.theory.specs.Relative.{RelativelyAtomic, RelativelySerial, ConflictSerializable, RelativelySerialOrder};
 ghost use Rattle.theory.specs.Graph.{Cycle, Arc};
 ghost use Rattle.book.specs.Meaning.{conflict-of, unit-of};
-ghost use Rattle.capi.specs.Numbers.{refused-with, reply-numbers, reading-numbers, written-numbers, played-numbers, judgement-numbers};
+ghost use Rattle.capi.specs.Numbers.{refused-with, reply-numbers, written-numbers, played-numbers, judgement-numbers};
 ghost use Rattle.capi.specs.Calls.{ReadCall, ReplyCall, JudgeCall, WriteCall, ReplayCall};
 
 // The number of a refusal or 0, its place or 0, and what the call answers or 0.

@@ -157,7 +157,7 @@ fn relatively_serial_by(
 }
 
 // Of a valid book's history: whether it is serial.
-pub fn is_serial(b: Book) -> bool
+fn is_serial(b: Book) -> bool
     requires { ⌜ Valid b ⌝ }
     ensures { λ r. ⌜ Answers (Serial (contents-of b .history)) r ⌝ }
 {
@@ -166,7 +166,7 @@ pub fn is_serial(b: Book) -> bool
 }
 
 // Whether it is relatively atomic.
-pub fn is_relatively_atomic(b: Book) -> bool
+fn is_relatively_atomic(b: Book) -> bool
     requires { ⌜ Valid b ⌝ }
     ensures { λ r. ⌜ Answers (RelativelyAtomic (unit-of (contents-of b)) (contents-of b .history)) r ⌝ }
 {
@@ -201,7 +201,7 @@ fn without_cuts(b: Book) -> Book
 }
 
 // Whether it is conflict serializable: the judge passes it without its cuts.
-pub fn is_conflict_serializable(b: Book) -> bool
+fn is_conflict_serializable(b: Book) -> bool
     requires { ⌜ Valid b ⌝ }
     ensures { λ r. ⌜ Answers (ConflictSerializable (conflict-of (contents-of b)) (contents-of b .history)) r ⌝ }
 {

@@ -128,7 +128,7 @@ fn with_history(b: Book, l: &[u8]) -> Book
 }
 
 // Of a valid book's history: whether l is a relatively serial order of it that agrees on all conflicting pairs.
-pub fn is_relatively_serial_order(b: Book, l: &[u8]) -> bool
+fn is_relatively_serial_order(b: Book, l: &[u8]) -> bool
     requires { ⌜ Valid b ⌝ }
     ensures { λ r. ⌜ Answers (RelativelySerialOrder (conflict-of (contents-of b)) (unit-of (contents-of b)) (contents-of b .history) (now (l .entry))) r ⌝ }
 {
@@ -143,7 +143,7 @@ pub fn is_relatively_serial_order(b: Book, l: &[u8]) -> bool
 }
 
 // Whether the places c are a cycle of its graph.
-pub fn is_cycle(b: Book, c: &[u8]) -> bool
+fn is_cycle(b: Book, c: &[u8]) -> bool
     requires { ⌜ Valid b ⌝ }
     ensures { λ r. ⌜ Answers (Cycle (conflict-of (contents-of b)) (unit-of (contents-of b)) (contents-of b .history) (now (c .entry))) r ⌝ }
 {
@@ -153,7 +153,7 @@ pub fn is_cycle(b: Book, c: &[u8]) -> bool
 }
 
 // Whether its graph has an arc from the place x to the place y.
-pub fn is_arc(b: Book, x: usize, y: usize) -> bool
+fn is_arc(b: Book, x: usize, y: usize) -> bool
     requires { ⌜ Valid b ⌝ }
     ensures { λ r. ⌜ Answers (Arc (conflict-of (contents-of b)) (unit-of (contents-of b)) (contents-of b .history) x y) r ⌝ }
 {

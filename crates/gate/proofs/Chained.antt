@@ -1,6 +1,6 @@
 -- THE THIRD DEMAND: calls made in turn on the record that opening returned over an accepted book. The contracts of the calls make the chain
 -- a run of the plain gate, of which the demand holds.
-use Prim.Native.Nat.{ℕ, suc, _+_}
+use Prim.Native.Nat.{ℕ, suc}
 use mathlib.Core.Path.{_≡_, refl, ap, _∙_}
 use mathlib.Core.List.{List, [], _∷_, _++_}
 use lib.ListN.{length}

@@ -1,6 +1,6 @@
 -- The plain gate is total and single-valued: for each state and call there is exactly one answer and next state. And what a call keeps: the
 -- kept list is one that the runs allow and that passes, a withdrawn run stays withdrawn, a tangled step stays tangled.
-use Prim.Native.Nat.{ℕ, _+_, _≤_, _<_, zero-le}
+use Prim.Native.Nat.{ℕ, _≤_, _<_, zero-le}
 use native.Mathlib.Nat.{not-suc-le-zero}
 use native.Mathlib.Omega.{arith}
 use native.Mathlib.Decide.{decLt}

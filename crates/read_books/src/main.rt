@@ -2,7 +2,7 @@
 // A book stands there as the label's length in one byte, the label, the book's length in two bytes, high first, and the book.
 use book::Answer;
 use libc::STDOUT_FILENO;
-ghost use Prim.Native.Nat.{_<_, _≤_};
+ghost use Prim.Native.Nat.{_<_};
 ghost use lib.ListN.{length};
 
 fn wide(x: u8) -> usize

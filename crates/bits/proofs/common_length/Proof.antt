@@ -1,6 +1,6 @@
 -- The leading zeros of w & m stand above its last bit, and the set bits of w & m are those of both.
 use mathlib.Core.Path.{_∙_, sym}
-use Prim.Native.Nat.{_≤_, _<_, _^_, _-_}
+use Prim.Native.Nat.{_≤_, _<_, _^_}
 use native.Mathlib.Nat.{lt-of-le-of-lt}
 use native.Mathlib.Omega.{arith}
 use lib.Bits.{bitAnd, and-le-l}

@@ -1,7 +1,6 @@
 -- The arrays that the code makes are those of `empty-book`.
 use Rattle.book.specs.Book.{empty-book}
 use mathlib.Core.Path.{refl}
-use borrow.Author.Needs.{needs}
 use Rattle.book.proofs.Book.empty.Statement.{statement}
 use Rattle.book.proofs.Book.empty.Tie as tie
 

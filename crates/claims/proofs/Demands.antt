@@ -1,0 +1,131 @@
+-- The three demands and the twelve rows, by citing.
+use Prim.Native.Nat.{ℕ, _≤_, _<_}
+use native.Mathlib.Decide.{decLt}
+use native.Mathlib.Omega.{arith}
+use mathlib.Core.Path.{_≡_, refl, sym, subst, _∙_}
+use mathlib.Core.Logic.{_⊎_, inl, inr, _≢_}
+use mathlib.Core.List.{List}
+use lib.ListN.{length, take, drop}
+use lib.Seq.{take-append-seam}
+use Rattle.theory.specs.Relative.{RelativelySerialOrder}
+use Rattle.theory.specs.Graph.{Cycle}
+use Rattle.theory.specs.Rows.{Table}
+use Rattle.theory.proofs.Places.{order-length}
+use Rattle.theory.proofs.Rows.{twelve-rows}
+use Rattle.book.specs.Format.{Contents, Outcome, refused, accepted, step-limit, read}
+use Rattle.book.specs.Meaning.{conflict-of, unit-of}
+use Rattle.book.specs.Book.{outcome-by}
+use Rattle.book.specs.declared.Cause.{Cause}
+use Rattle.book.specs.declared.Book.{Book}
+use Rattle.book.specs.declared.Answer.{Answer}
+use Rattle.book.specs.declared.Answer.the-variants.{Accepted, Refused as NotRead}
+use Rattle.writer.specs.Written.{written, buffer-by}
+use Rattle.writer.specs.declared.Written.{Written}
+use Rattle.writer.specs.declared.Written.the-variants.{Refused as NotWritten}
+use Rattle.writer.proofs.FormatLaws.{Bytes}
+use Rattle.judge.specs.Judged.{smallest-first, JudgedAs}
+use Rattle.judge.specs.Judge.{OutcomeJudged, BytesJudged}
+use Rattle.judge.specs.declared.Judgement.{Judgement}
+use Rattle.judge.specs.declared.Verdict.{Verdict}
+use Rattle.judge.specs.declared.Verdict.the-variants.{Passed, Tangled, Refused as NotJudged}
+use Rattle.judge.proofs.Uncut.{bytes-passed, uncut-passed}
+use Rattle.gate.specs.Plain.{Call, Answer as Reply, State, PlainCall, step-refused, step-tangled, step-kept, withdraw-refused, withdraws}
+use Rattle.gate.specs.Plain.{refused as call-refused}
+use Rattle.gate.specs.Gate.{OpenedAs, state-of}
+use Rattle.gate.specs.Chain.{Chain}
+use Rattle.gate.specs.Demand.{Demand3}
+use Rattle.gate.specs.declared.Gate.{Gate}
+use Rattle.gate.specs.declared.Opened.{Opened}
+use Rattle.gate.proofs.Chained.{demand-3 as gate-demand}
+use Rattle.claims.specs.Demands.{Demand1, Demand2}
+
+-- ---- demand 1
+
+read-answer : (a : Answer) (b : Book) (cause : Cause) (place : ℕ) → outcome-by a b ≡ refused cause place → a ≡ NotRead cause place
+read-answer (NotRead d p) b cause place e = cc
+read-answer Accepted b cause place e = let z : _≡_ {A = ℕ} 0 1 = cc in absurd (omega arith)
+
+module _ (order order′ cycle cycle′ : List ℕ) (r : Judgement) where
+  Kept : Type 0
+  Kept = (order′ ≡ order) × (cycle′ ≡ cycle) × (r .count ≡ 0)
+
+  judged-kept : (o : Outcome) (cause : Cause) (place : ℕ) → OutcomeJudged order order′ cycle cycle′ o r → r .verdict ≡ NotJudged cause place → Kept
+  unfolding Kept
+  judged-kept (refused d p) cause place j e = (j .order-kept, j .cycle-kept, j .count-is)
+  judged-kept (accepted c) cause place j e = absurd (rw e at j)
+
+  bytes-kept : (s : List ℕ) (cause : Cause) (place : ℕ) → BytesJudged order order′ cycle cycle′ s r → r .verdict ≡ NotJudged cause place → Kept
+  unfolding Kept
+  bytes-kept s cause place j e = go (decLt (length order) step-limit) (decLt (length cycle) step-limit)
+    where
+      short : (length order < step-limit) ⊎ (length cycle < step-limit) → Kept
+      short h = let k = j .short h in (k .order-kept, k .cycle-kept, k .count-is)
+
+      go : Dec (length order < step-limit) → Dec (length cycle < step-limit) → Kept
+      go (yes h) d = short (inl h)
+      go (no n) (yes h) = short (inr h)
+      go (no n) (no m) = judged-kept (read s) cause place (j .long (omega arith) (omega arith)) e
+
+writer-kept : (s before : List ℕ) (w : Written) (cause : Cause) (place : ℕ) (after : List ℕ) → NotWritten cause place ≡ w → after ≡ buffer-by w s before → after ≡ before
+writer-kept s before w cause place after e f = f ∙ rw (← e)
+
+gate-kept : (c : Contents) (g h : State) (x : Call) (a : Reply) (n : ℕ) → PlainCall c g x a h → a ≡ call-refused n → h ≡ g
+gate-kept c g h x a n (step-refused d) e = refl
+gate-kept c g h x a n (step-tangled d t) e = refl
+gate-kept c g h x a n (step-kept d t) e = let z : _≡_ {A = ℕ} 0 1 = cc in absurd (omega arith)
+gate-kept c g h x a n (withdraw-refused d) e = refl
+gate-kept c g h x a n (withdraws d) e = let z : _≡_ {A = ℕ} 0 1 = cc in absurd (omega arith)
+
+pub demand-1 : Demand1
+unfolding Kept
+demand-1 = record {
+  reader = λ s r cause place h e. (read-answer (r .answer) (r .book) cause place (h .outcome ∙ e), h .empty cause place e);
+  judge-short = λ s order order′ cycle cycle′ r j h. j .short h .verdict-is;
+  judge-refused = λ s order order′ cycle cycle′ r cause place j a b e. subst (λ (o : Outcome). OutcomeJudged order order′ cycle cycle′ o r) e (j .long a b) .verdict-is;
+  judge-kept = λ s order order′ cycle cycle′ r cause place j e. bytes-kept order order′ cycle cycle′ r s cause place j e;
+  writer-kept = λ s before after cause place w. writer-kept s before (written s (length before)) cause place after (w .answer) (w .buffer);
+  gate-kept = λ c g h x n p. gate-kept c g h x (call-refused n) n p refl;
+}
+
+-- ---- demand 2
+
+module _ (c : Contents) (order order′ cycle cycle′ : List ℕ) where
+  order-returned : (v : Verdict) (n : ℕ) → JudgedAs (conflict-of c) (unit-of c) (c .history) order order′ cycle cycle′ v n → v ≡ Passed
+      → RelativelySerialOrder (conflict-of c) (unit-of c) (c .history) (take n order′)
+  order-returned (NotJudged cause place) n j e = absurd j
+  order-returned Tangled n j e = let z : _≡_ {A = ℕ} 0 1 = cc in absurd (omega arith)
+  order-returned Passed n j e =
+      let l = smallest-first (conflict-of c) (unit-of c) (c .history) in
+      let k : n ≡ length l = j .count-is ∙ sym (order-length (c .history) l (j .evidence .equivalent .order)) in
+      rw (j .order-is, k, take-append-seam l (drop (length (c .history)) order)) (j .evidence)
+
+  cycle-returned : (v : Verdict) (n : ℕ) → JudgedAs (conflict-of c) (unit-of c) (c .history) order order′ cycle cycle′ v n → v ≢ Passed
+      → Cycle (conflict-of c) (unit-of c) (c .history) (take n cycle′)
+  cycle-returned (NotJudged cause place) n j e = absurd j
+  cycle-returned Passed n j e = absurd (e refl)
+  cycle-returned Tangled n j e = rw (j .cycle-is, j .count-is, take-append-seam (j .places) (drop (length (j .places)) cycle)) (j .evidence)
+
+-- for every string of bytes, buffers as long as the judge asks, and judgement that meets the judge's contract
+pub demand-2 : (s : List ℕ) (c : Contents) → read s ≡ accepted c → (order order′ cycle cycle′ : List ℕ) (r : Judgement) → step-limit ≤ length order → step-limit ≤ length cycle
+    → BytesJudged order order′ cycle cycle′ s r → Demand2 c order′ cycle′ r
+demand-2 s c e order order′ cycle cycle′ r a b j = record {
+  passes-exactly = bytes-passed order order′ cycle cycle′ s r j a b c e;
+  order-returned = order-returned c order order′ cycle cycle′ (r .verdict) (r .count) judged;
+  cycle-returned = cycle-returned c order order′ cycle cycle′ (r .verdict) (r .count) judged;
+  uncut-exactly = uncut-passed order order′ cycle cycle′ s r j a b c e;
+}
+  where
+    judged : JudgedAs (conflict-of c) (unit-of c) (c .history) order order′ cycle cycle′ (r .verdict) (r .count)
+    judged = subst (λ (o : Outcome). OutcomeJudged order order′ cycle cycle′ o r) e (j .long a b)
+
+-- ---- demand 3
+
+-- for every accepted book, every gate that opening it returned, and every list of calls made in turn on that record
+pub demand-3 : (s : List ℕ) (c : Contents) → Bytes s → read s ≡ accepted c → (o : Opened) → OpenedAs (read s) o
+    → (calls : List Call) (answers : List Reply) (g : Gate) → Chain (o .gate) calls answers g → Demand3 c calls answers (state-of g)
+demand-3 = gate-demand
+
+-- ---- the twelve rows
+
+pub rows : Table
+rows = twelve-rows

@@ -1,0 +1,2 @@
+-- The demands hold.
+pub mod Demands

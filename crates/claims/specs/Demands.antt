@@ -1,0 +1,50 @@
+-- The demands in the user's words, as statements about every answer that meets the public calls' contracts. What the calls' own proofs say
+-- besides, for every input: they never trap, they end, and they touch no memory but the lent buffers. Demand 3 is gate's `Demand3`
+-- (crates/gate/specs/Demand.antt), and the twelve rows are theory's `Table` (crates/theory/specs/Rows.antt); both stand there once.
+use Prim.Native.Nat.{ℕ, _≤_, _<_}
+use mathlib.Core.Path.{_≡_}
+use mathlib.Core.Logic.{_⊎_, _≢_, _↔_}
+use mathlib.Core.List.{List, []}
+use lib.ListN.{length, take}
+use Rattle.theory.specs.Relative.{ConflictSerializable, RelativelySerialOrder, RelativelySerializable}
+use Rattle.theory.specs.Graph.{Cycle}
+use Rattle.book.specs.Format.{Contents, refused, step-limit, read}
+use Rattle.book.specs.Meaning.{conflict-of, unit-of}
+use Rattle.book.specs.Book.{empty-book, ReadAs}
+use Rattle.book.specs.declared.Cause.{Cause}
+use Rattle.book.specs.declared.Cause.the-variants.{JudgeBufferShort}
+use Rattle.book.specs.declared.Reading.{Reading}
+use Rattle.book.specs.declared.Answer.the-variants.{Refused as NotRead}
+use Rattle.writer.specs.Written.{Wrote}
+use Rattle.writer.specs.declared.Written.the-variants.{Refused as NotWritten}
+use Rattle.judge.specs.Judge.{BytesJudged}
+use Rattle.judge.specs.declared.Judgement.{Judgement}
+use Rattle.judge.specs.declared.Verdict.the-variants.{Passed, Refused as NotJudged}
+use Rattle.gate.specs.Plain.{Call, State, PlainCall}
+use Rattle.gate.specs.Plain.{refused as call-refused}
+
+-- Demand 1. Nothing refused changes a buffer or the gate, and each refusal has the number and place in document 01: the cause and place of
+-- the format, whose numbers book's `number` gives.
+pub record Demand1 : Type 0 where
+  pub reader : (s : List ℕ) (r : Reading) (cause : Cause) (place : ℕ) → ReadAs (read s) r → read s ≡ refused cause place → (r .answer ≡ NotRead cause place) × (r .book ≡ empty-book)
+  -- 12 comes first, then 1 to 11
+  pub judge-short : (s order order′ cycle cycle′ : List ℕ) (r : Judgement) → BytesJudged order order′ cycle cycle′ s r
+      → (length order < step-limit) ⊎ (length cycle < step-limit) → r .verdict ≡ NotJudged JudgeBufferShort 0
+  pub judge-refused : (s order order′ cycle cycle′ : List ℕ) (r : Judgement) (cause : Cause) (place : ℕ) → BytesJudged order order′ cycle cycle′ s r
+      → step-limit ≤ length order → step-limit ≤ length cycle → read s ≡ refused cause place → r .verdict ≡ NotJudged cause place
+  pub judge-kept : (s order order′ cycle cycle′ : List ℕ) (r : Judgement) (cause : Cause) (place : ℕ) → BytesJudged order order′ cycle cycle′ s r
+      → r .verdict ≡ NotJudged cause place → (order′ ≡ order) × (cycle′ ≡ cycle) × (r .count ≡ 0)
+  pub writer-kept : (s before after : List ℕ) (cause : Cause) (place : ℕ) → Wrote s before after (NotWritten cause place) → after ≡ before
+  pub gate-kept : (c : Contents) (g h : State) (x : Call) (n : ℕ) → PlainCall c g x (call-refused n) h → h ≡ g
+
+-- Demand 2, of a judgement r on the bytes of a book with contents c, and of the buffers after the call.
+pub record Demand2 (c : Contents) (order′ cycle′ : List ℕ) (r : Judgement) : Type 0 where
+  -- The judge passes a history exactly when some relatively serial order of its steps, in the published sense, has every conflicting pair in
+  -- the same order.
+  pub passes-exactly : (r .verdict ≡ Passed) ↔ RelativelySerializable (conflict-of c) (unit-of c) (c .history)
+  -- It then returns such an order,
+  pub order-returned : r .verdict ≡ Passed → RelativelySerialOrder (conflict-of c) (unit-of c) (c .history) (take (r .count) order′)
+  -- and otherwise a cycle of the published graph.
+  pub cycle-returned : r .verdict ≢ Passed → Cycle (conflict-of c) (unit-of c) (c .history) (take (r .count) cycle′)
+  -- Without cuts, it passes exactly the conflict serializable histories.
+  pub uncut-exactly : c .cuts ≡ [] → (r .verdict ≡ Passed) ↔ ConflictSerializable (conflict-of c) (c .history)

@@ -1,0 +1,2 @@
+-- The demands, over what the public calls promise.
+pub mod Demands

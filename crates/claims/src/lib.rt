@@ -1,0 +1,1 @@
+// The three demands and the twelve rows, stated (specs/) and proved by citing (proofs/). This crate has no code.
