@@ -1,13 +1,14 @@
-/* Times the proved reader and judge against plain.c, on the same full books in the same run, and the gate's step against the judge; prints
-   the ratios. Both sides read the
+/* Times the proved reader and judge against plain.c, on the same full books in the same run, and the gate's steps against the judge on the
+   same kept lists (there both are proved); prints the ratios. Both sides read the
    book's bytes each time and are built with -O3; no buffer is cleared beforehand. */
 #include "../include/deck.h"
 #include "books.h"
 #include "plain.h"
 #include <stdio.h>
+#include <string.h>
 #include <time.h>
 
-enum { BOOKS = 24, ROUNDS = 4, REPEATS = 100 };
+enum { BOOKS = 24, ROUNDS = 1, REPEATS = 60 };
 
 static uint8_t books[BOOKS][BOOK_ROOM];
 static size_t lengths[BOOKS];
@@ -32,23 +33,31 @@ static void proved_judge(const uint8_t *s, size_t n) {
     sink += deck_judge(s, n, order, 128, cycle, 128).count;
 }
 
-/* The history as step calls, all of them or all but the last. */
-static void replayed(const uint8_t *s, size_t n, int left_out) {
-    static uint8_t answers[256];
-    uint8_t calls[256];
+/* The history as step calls on a gate. */
+static void proved_replay(const uint8_t *s, size_t n) {
+    uint8_t calls[256], answers[256];
     size_t m = 0;
     plain_book b;
     plain_read(s, n, &b);
-    for (int p = 0; p + left_out < b.n; p++) {
+    for (int p = 0; p < b.n; p++) {
         calls[m++] = 0x53;
         calls[m++] = b.history[p];
     }
     sink += deck_replay(s, n, calls, m, answers, sizeof answers).value;
 }
 
-static void proved_replay(const uint8_t *s, size_t n) { replayed(s, n, 0); }
-
-static void proved_replay_before(const uint8_t *s, size_t n) { replayed(s, n, 1); }
+/* The judge on each prefix of the history that the gate keeps in turn. */
+static void proved_prefixes(const uint8_t *s, size_t n) {
+    static uint8_t prefix[BOOK_ROOM];
+    plain_book b;
+    plain_read(s, n, &b);
+    memcpy(prefix, s, n);
+    for (int left = 0; left < b.n; left++) {
+        size_t end = n - 1 - 2 * (size_t)left;
+        prefix[end] = 0x45;
+        proved_judge(prefix, end + 1);
+    }
+}
 
 static void plain_judges(const uint8_t *s, size_t n) {
     uint8_t order[128], cycle[128];
@@ -69,26 +78,14 @@ static double timed(void (*call)(const uint8_t *, size_t)) {
 }
 
 /* The least of many times, taken in turn, so that other work on the machine disturbs both alike. */
-static void compare(const char *label, void (*proved)(const uint8_t *, size_t), void (*plain)(const uint8_t *, size_t)) {
+static void compare(const char *label, void (*proved)(const uint8_t *, size_t), const char *other, void (*plain)(const uint8_t *, size_t)) {
     double p = 1e9, c = 1e9;
     for (int k = 0; k < REPEATS; k++) {
         double t = timed(proved), u = timed(plain);
         p = t < p ? t : p;
         c = u < c ? u : c;
     }
-    printf("%-34s proved %7.2f us, plain C %7.2f us, ratio %.2f\n", label, p, c, p / c);
-}
-
-/* The gate's step at 127 kept steps, as the difference of two replays, beside the judge on the same books. */
-static void compare_step(void) {
-    double all = 1e9, before = 1e9, judge = 1e9;
-    for (int k = 0; k < REPEATS / 4; k++) {
-        double t = timed(proved_replay), u = timed(proved_replay_before), v = timed(proved_judge);
-        all = t < all ? t : all;
-        before = u < before ? u : before;
-        judge = v < judge ? v : judge;
-    }
-    printf("%-34s proved %7.2f us, judge   %7.2f us, ratio %.2f\n", "  a step of the gate", all - before, judge, (all - before) / judge);
+    printf("%-30s proved %7.2f us, %-9s %7.2f us, ratio %.2f\n", label, p, other, c, p / c);
 }
 
 /* Full books of 128 steps in 16 runs that the judge passes, or does not. */
@@ -118,13 +115,13 @@ int main(void) {
     for (size_t k = 0; k < sizeof cases / sizeof *cases; k++) {
         shape f = {.runs = 16, .fixed = 8, .steps = 8, .kinds = 4, .pairs = 50, .positions = cases[k].positions, .cuts = cases[k].cuts, .burst = cases[k].burst};
         if (!fill(&f, cases[k].passed, 7 + k)) {
-            printf("%-34s no such books found\n", cases[k].label);
+            printf("%-30s no such books found\n", cases[k].label);
             continue;
         }
-        compare(cases[k].label, proved_judge, plain_judges);
+        compare(cases[k].label, proved_judge, "plain C", plain_judges);
         if (cases[k].cuts == 100) {
-            compare("  reading alone", proved_read, plain_reads);
-            compare_step();
+            compare("  reading alone", proved_read, "plain C", plain_reads);
+            compare("  128 steps of the gate", proved_replay, "the judge", proved_prefixes);
         }
     }
     return 0;
