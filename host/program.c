@@ -7,7 +7,7 @@
 #include <stdlib.h>
 #include <string.h>
 
-enum { TEXT = 4096, BOOKS = 3000 };
+enum { TEXT = 4096, BOOKS = 8000 };
 
 /* What the program writes for a book. */
 static size_t run(const char *deck, const char *file, const uint8_t *book, size_t len, char *text) {
