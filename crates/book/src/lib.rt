@@ -77,6 +77,7 @@ pub fn number_of(cause: Cause) -> u8
 }
 
 // A deck book. What it means is `contents-of` in specs/Book.antt.
+#[repr(C)]
 pub struct Book {
     // 1 at a * 16 + b for each listed pair of kinds a, b; else 0.
     pub pairs: [u8; Book::PAIRS_SIZE],

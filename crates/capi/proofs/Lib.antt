@@ -1,2 +1,3 @@
--- One law for each way out of the functions that turn an answer into numbers.
+-- One law for each way out of the functions that turn an answer into numbers, and the walk of the calls on a gate that is held.
 pub mod Laws
+pub mod Live

@@ -5,13 +5,17 @@ use mathlib.Core.List.{List}
 use Rattle.book.specs.Format.{Contents, read}
 use Rattle.classes.specs.Reply.{Replies}
 use Rattle.classes.specs.declared.Reply.{Reply}
+use Rattle.gate.specs.Plain.{Call}
+use Rattle.gate.specs.Gate.{opening-answer, OpenedAs, CalledAs}
 use Rattle.gate.specs.Replay.{Replays}
+use Rattle.gate.specs.declared.Gate.{Gate}
+use Rattle.gate.specs.declared.Reply.{Reply as GateReply}
 use Rattle.gate.specs.declared.Replayed.{Replayed}
 use Rattle.judge.specs.Judge.{BytesJudged}
 use Rattle.judge.specs.declared.Judgement.{Judgement}
 use Rattle.writer.specs.Written.{Wrote}
 use Rattle.writer.specs.declared.Written.{Written}
-use Rattle.capi.specs.Numbers.{reading-numbers, reply-numbers, written-numbers, played-numbers, judgement-numbers}
+use Rattle.capi.specs.Numbers.{reading-numbers, reply-numbers, written-numbers, played-numbers, opening-numbers, call-numbers, judgement-numbers}
 use Rattle.capi.specs.declared.Answered.{Answered}
 use Rattle.capi.specs.declared.Judged.{Judged}
 
@@ -32,6 +36,17 @@ pub record WriteCall (s before after : List ℕ) (r : Answered) : Type 0 where
   pub written : Written
   pub promise : Wrote s before after written
   pub numbers : r ≡ written-numbers written
+
+-- the record at exit is the gate that opening hands back: over a refused book, that of a book without runs
+pub record OpenCall (s : List ℕ) (g : Gate) (r : Answered) : Type 0 where
+  pub promise : OpenedAs (read s) (record { answer = opening-answer (read s); gate = g })
+  pub numbers : r ≡ opening-numbers (opening-answer (read s))
+
+-- of the record at entry and at exit
+pub record GateCall (x : Call) (g h : Gate) (r : Answered) : Type 0 where
+  pub reply : GateReply
+  pub promise : CalledAs g x reply h
+  pub numbers : r ≡ call-numbers reply
 
 pub record ReplayCall (s calls before after : List ℕ) (r : Answered) : Type 0 where
   pub replayed : Replayed

@@ -3,10 +3,14 @@ use Prim.Native.Nat.{ℕ}
 use Rattle.book.specs.Numbers.{number}
 use Rattle.book.specs.Format.{Outcome, refused, accepted}
 use Rattle.book.specs.declared.Cause.{Cause}
+use Rattle.book.specs.declared.Answer.{Answer}
+use Rattle.book.specs.declared.Answer.the-variants.{Accepted, Refused as NotRead}
 use Rattle.classes.specs.declared.Reply.{Reply}
 use Rattle.classes.specs.declared.Reply.the-variants.{Refused, Yes, No}
 use Rattle.writer.specs.declared.Written.{Written}
 use Rattle.writer.specs.declared.Written.the-variants.{Length, Refused as NotWritten}
+use Rattle.gate.specs.declared.Reply.{Reply as GateReply}
+use Rattle.gate.specs.declared.Reply.the-variants.{Place, Withdrawn, Refused as CallRefused}
 use Rattle.gate.specs.declared.Played.{Played}
 use Rattle.gate.specs.declared.Played.the-variants.{BadCall, AnswersShort, Done, Refused as NotOpened}
 use Rattle.judge.specs.declared.Verdict.{Verdict}
@@ -35,6 +39,17 @@ reading-numbers (accepted c) = record { number = 0; place = 0; value = length (c
 abbrev pub written-numbers : Written → Answered
 written-numbers (Length n) = record { number = 0; place = 0; value = n }
 written-numbers (NotWritten cause at) = refused-with cause at
+
+-- an opened gate has no value
+abbrev pub opening-numbers : Answer → Answered
+opening-numbers (NotRead cause at) = refused-with cause at
+opening-numbers Accepted = record { number = 0; place = 0; value = 0 }
+
+-- the place of an admitted step; a withdrawal has no value; 20 to 23 with the number only
+abbrev pub call-numbers : GateReply → Answered
+call-numbers (Place p) = record { number = 0; place = 0; value = p }
+call-numbers Withdrawn = record { number = 0; place = 0; value = 0 }
+call-numbers (CallRefused cause) = refused-with cause 0
 
 -- the number of calls made; 24 with the offset in the list, 25 with the number only
 abbrev pub played-numbers : Played → Answered

@@ -3,7 +3,9 @@ use book::Answer;
 use book::Cause;
 use book::Reading;
 use classes::Reply;
+use gate::Gate;
 use gate::Played;
+use gate::Reply as GateReply;
 use judge::Judgement;
 use judge::Verdict;
 use writer::Written;
@@ -12,8 +14,10 @@ ghost use Rattle.theory.specs.History.{Serial};
 ghost use Rattle.theory.specs.Relative.{RelativelyAtomic, RelativelySerial, ConflictSerializable, RelativelySerialOrder};
 ghost use Rattle.theory.specs.Graph.{Cycle, Arc};
 ghost use Rattle.book.specs.Meaning.{conflict-of, unit-of};
-ghost use Rattle.capi.specs.Numbers.{refused-with, reply-numbers, written-numbers, played-numbers, judgement-numbers};
-ghost use Rattle.capi.specs.Calls.{ReadCall, ReplyCall, JudgeCall, WriteCall, ReplayCall};
+ghost use Rattle.gate.specs.Plain.{step as step-call, withdraw as withdraw-call};
+ghost use Rattle.gate.specs.Gate.{Sound};
+ghost use Rattle.capi.specs.Numbers.{refused-with, reply-numbers, written-numbers, played-numbers, opening-numbers, call-numbers, judgement-numbers};
+ghost use Rattle.capi.specs.Calls.{ReadCall, ReplyCall, JudgeCall, WriteCall, OpenCall, GateCall, ReplayCall};
 
 // The number of a refusal or 0, its place or 0, and what the call answers or 0.
 #[repr(C)]
@@ -87,6 +91,25 @@ fn of_played(played: Played) -> Answered
             value: 0,
         },
         Played::Done(n) => value_of(n),
+    }
+}
+
+fn of_opening(answer: Answer) -> Answered
+    ensures { λ r. ⌜ r ≡ opening-numbers answer ⌝ }
+{
+    match answer {
+        Answer::Refused(cause, place) => refused_with(cause, place),
+        Answer::Accepted => value_of(0),
+    }
+}
+
+fn of_call(reply: GateReply) -> Answered
+    ensures { λ r. ⌜ r ≡ call-numbers reply ⌝ }
+{
+    match reply {
+        GateReply::Place(place) => value_of(place),
+        GateReply::Withdrawn => value_of(0),
+        GateReply::Refused(cause) => refused_with(cause, 0),
     }
 }
 
@@ -202,6 +225,33 @@ pub extern "C" fn deck_write(s: &[u8], out: &mut [u8]) -> Answered
 {
     let written = writer::write(s, out);
     of_written(written)
+}
+
+#[no_mangle]
+pub extern "C" fn deck_open(s: &[u8], g: &mut Gate) -> Answered
+    ensures { λ r. ⌜ OpenCall (now (s .entry)) (now (g .exit)) r ⌝ }
+{
+    let opened = gate::open(s);
+    *g = opened.gate;
+    of_opening(opened.answer)
+}
+
+#[no_mangle]
+pub extern "C" fn deck_step(g: &mut Gate, run: u8) -> Answered
+    requires { ⌜ Sound (now g) ⌝ }
+    ensures { λ r. ⌜ GateCall (step-call run) (now (g .entry)) (now (g .exit)) r ⌝ }
+{
+    let reply = gate::step(g, run);
+    of_call(reply)
+}
+
+#[no_mangle]
+pub extern "C" fn deck_withdraw(g: &mut Gate, run: u8) -> Answered
+    requires { ⌜ Sound (now g) ⌝ }
+    ensures { λ r. ⌜ GateCall (withdraw-call run) (now (g .entry)) (now (g .exit)) r ⌝ }
+{
+    let reply = gate::withdraw(g, run);
+    of_call(reply)
 }
 
 #[no_mangle]

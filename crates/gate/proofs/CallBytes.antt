@@ -20,7 +20,6 @@ use Rattle.gate.specs.Gate.{answer-of, Sound, CalledAs}
 use Rattle.gate.specs.Replay.{is-call, call-of, calls-of, bad-at, answer-bytes, answers-bytes, answers-in}
 use Rattle.gate.specs.Inner.{Low, BytesOf}
 use Rattle.gate.specs.declared.Gate.{Gate}
-use Rattle.gate.specs.declared.Called.{Called}
 use Rattle.gate.specs.declared.Reply.{Reply}
 use Rattle.gate.specs.declared.Reply.the-variants.{Place, Withdrawn, Refused}
 
@@ -88,11 +87,11 @@ module _ (bs : List ℕ) (at : ℕ) (w : Scanned bs at) where
 
 -- ---- one call
 
-module _ (g : Gate) (o r : ℕ) (x : Called) where
-  pub call-step : o ≡ 0x53 → CalledAs g (step r) x → CalledAs g (call-of o r) x
+module _ (g h : Gate) (o r : ℕ) (a : Reply) where
+  pub call-step : o ≡ 0x53 → CalledAs g (step r) a h → CalledAs g (call-of o r) a h
   call-step e w = rw (eq-eqb o 0x53 e) w
 
-  pub call-withdraw : (o ≡ 0x53 → ⊥) → CalledAs g (withdraw r) x → CalledAs g (call-of o r) x
+  pub call-withdraw : (o ≡ 0x53 → ⊥) → CalledAs g (withdraw r) a h → CalledAs g (call-of o r) a h
   call-withdraw e w = rw (ne-eqb o 0x53 e) w
 
 -- ---- an answer's bytes
@@ -118,8 +117,8 @@ place-is p (step-kept o s) e = cc
 place-is p (withdraw-refused w) e = let z : _≡_ {A = ℕ} 0 1 = cc in absurd (omega arith)
 place-is p (withdraws o) e = let z : _≡_ {A = ℕ} 0 1 = cc in absurd (omega arith)
 
-pub answer-low : (g : Gate) (x : Call) (r : Called) → Sound g → CalledAs g x r → Low (r .answer)
-answer-low g x r y w = record { place-low = λ p e. omega (arith, place-is p (w .plain) (ap answer-of e), history-long (g .book) (y .valid), done-few (g .book) (y .valid), y .valid .few-steps) }
+pub answer-low : (g h : Gate) (x : Call) (a : Reply) → Sound g → CalledAs g x a h → Low a
+answer-low g h x a y w = record { place-low = λ p e. omega (arith, place-is p (w .plain) (ap answer-of e), history-long (g .book) (y .valid), done-few (g .book) (y .valid), y .valid .few-steps) }
 
 -- ---- many answers
 

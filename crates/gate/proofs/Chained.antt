@@ -14,19 +14,19 @@ use Rattle.gate.specs.Gate.{answer-of, book-of, state-of, opened-book, O
 use Rattle.gate.specs.Chain.{Chain, none, link}
 use Rattle.gate.specs.declared.Gate.{Gate}
 use Rattle.gate.specs.declared.Opened.{Opened}
-use Rattle.gate.specs.declared.Called.{Called}
+use Rattle.gate.specs.declared.Reply.{Reply}
 use Rattle.gate.proofs.PlainGate.{call-history}
 use Rattle.gate.proofs.Demand.{plain-demand}
 
 chain-plain : (c : Contents) {g h : Gate} {xs : List Call} {bs : List Answer} → Chain g xs bs h → book-of g ≡ with-history c [] → PlainCalls c (state-of g) xs bs (state-of h)
 chain-plain c none e = no-calls
-chain-plain c {g} (link {x = x} r w k) e =
-    let p : PlainCall (with-history c []) (state-of g) x (answer-of (r .answer)) (state-of (r .gate)) = rw e at (w .plain) in
+chain-plain c {g} (link {h = h} {x = x} a w k) e =
+    let p : PlainCall (with-history c []) (state-of g) x (answer-of a) (state-of h) = rw e at (w .plain) in
     next-call (call-history c [] p) (chain-plain c k (w .book ∙ e))
 
 pub chain-book : {g h : Gate} {xs : List Call} {bs : List Answer} → Chain g xs bs h → book-of h ≡ book-of g
 chain-book none = refl
-chain-book (link r w k) = chain-book k ∙ w .book
+chain-book (link a w k) = chain-book k ∙ w .book
 
 -- from the opening on
 pub opened-plain : (s : List ℕ) (c : Contents) (o : Opened) (calls : List Call) (answers : List Answer) (g : Gate) → read s ≡ accepted c → OpenedAs (read s) o
@@ -39,11 +39,11 @@ demand-3 s c bytes e o w calls answers g k = plain-demand c s bytes e calls answ
 
 -- ---- one call more
 
-pub chain-snoc : {g h : Gate} {xs : List Call} {bs : List Answer} {x : Call} → Chain g xs bs h → (r : Called) → CalledAs h x r
-    → Chain g (xs ++ x ∷ []) (bs ++ answer-of (r .answer) ∷ []) (r .gate)
-chain-snoc none r w = link r w none
-chain-snoc (link q v k) r w = link q v (chain-snoc k r w)
+pub chain-snoc : {g h k : Gate} {xs : List Call} {bs : List Answer} {x : Call} → Chain g xs bs h → (a : Reply) → CalledAs h x a k
+    → Chain g (xs ++ x ∷ []) (bs ++ answer-of a ∷ []) k
+chain-snoc none a w = link a w none
+chain-snoc (link b v c) a w = link b v (chain-snoc c a w)
 
 pub chain-length : {g h : Gate} {xs : List Call} {bs : List Answer} → Chain g xs bs h → length bs ≡ length xs
 chain-length none = refl
-chain-length (link r w k) = ap suc (chain-length k)
+chain-length (link a w k) = ap suc (chain-length k)

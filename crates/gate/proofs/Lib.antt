@@ -5,3 +5,5 @@ pub mod Records
 pub mod Chained
 pub mod CallBytes
 pub mod Replays
+pub mod Lent
+pub mod Holder

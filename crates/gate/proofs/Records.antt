@@ -234,10 +234,10 @@ module _ (g : Gate) (r i : ℕ) (y : Sound g) (e : i ≡ r) where
   kept-of n c p q o s = rw (p, q) (step-kept o s)
 
   module _ (t : Standing) (w : Stands (g .book .runs) (g .book .lens) (g .book .dones) (g .withdrawn) i t) where
-    pub step-refuses : (cause : Cause) → t ≡ IsRefused cause → CalledAs g (step r) (record { answer = Refused cause; gate = g })
+    pub step-refuses : (cause : Cause) → t ≡ IsRefused cause → CalledAs g (step r) (Refused cause) g
     step-refuses cause q = record { plain = step-refused (refusal-of (rw q at w)); book = refl; sound = y }
 
-    pub withdraw-refuses : (cause : Cause) → t ≡ IsRefused cause → CalledAs g (withdraw r) (record { answer = Refused cause; gate = g })
+    pub withdraw-refuses : (cause : Cause) → t ≡ IsRefused cause → CalledAs g (withdraw r) (Refused cause) g
     withdraw-refuses cause q = record { plain = withdraw-refused (refusal-of (rw q at w)); book = refl; sound = y }
 
     module _ (q : t ≡ IsEligible) where
@@ -250,7 +250,7 @@ module _ (g : Gate) (r i : ℕ) (y : Sound g) (e : i ≡ r) where
       pub flag-low : i < 16
       flag-low = omega (arith, in-tables .declared, y .valid .few-runs)
 
-      pub withdraw-done : CalledAs g (withdraw r) (record { answer = Withdrawn; gate = record { book = g .book; withdrawn = set (g .withdrawn) i 1 } })
+      pub withdraw-done : CalledAs g (withdraw r) Withdrawn (record { book = g .book; withdrawn = set (g .withdrawn) i 1 })
       withdraw-done = record {
         plain = rw (ap (λ (n : ℕ). marked 0 (set (g .withdrawn) n 1)) e ∙ flag-set (g .withdrawn) r (omega (arith, flag-low, y .flags .long))) (withdraws (eligible-of in-tables));
         book = refl;
@@ -258,10 +258,10 @@ module _ (g : Gate) (r i : ℕ) (y : Sound g) (e : i ≡ r) where
       }
 
       module _ (b : Book) (ok : Bool) (m : Represents (add-done (contents-of (g .book)) r) b) (p : Passes (contents-of b) ok) where
-        pub step-tangles : ok ≡ false → CalledAs g (step r) (record { answer = Refused Tangled; gate = g })
+        pub step-tangles : ok ≡ false → CalledAs g (step r) (Refused Tangled) g
         step-tangles h = record { plain = step-tangled (eligible-of in-tables) (rw (m .contents) at (p .tangled h)); book = refl; sound = y }
 
-        pub step-keeps : ok ≡ true → CalledAs g (step r) (record { answer = Place (g .book .done); gate = record { book = b; withdrawn = g .withdrawn } })
+        pub step-keeps : ok ≡ true → CalledAs g (step r) (Place (g .book .done)) (record { book = b; withdrawn = g .withdrawn })
         step-keeps h = record {
           plain = kept-of (g .book .done) (contents-of b) (sym (history-long (g .book) (y .valid))) (m .contents) (eligible-of in-tables) (λ n. n (rw (m .contents) at (p .passed h)));
           book = rw (m .contents);

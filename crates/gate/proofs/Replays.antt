@@ -56,7 +56,7 @@ module _ (g : Gate) (bs b : List ℕ) (n : ℕ) (z : List ℕ) (h : Gate) (i : �
   pub second-inside : (v : ℕ) → i < n → i * 2 + 1 < length (set z (i * 2) v)
   second-inside v k = simp length-set (omega (arith, w .fits, w .long))
 
-  module _ (k : i < n) (x : Called) (v : AnswerBytes) (called : CalledAs h (call-of (getD bs (i * 2) 0) (getD bs (i * 2 + 1) 0)) x) (coded : BytesOf (x .answer) v) where
+  module _ (k : i < n) (x : Called) (v : AnswerBytes) (called : CalledAs h (call-of (getD bs (i * 2) 0) (getD bs (i * 2 + 1) 0)) (x .answer) (x .gate)) (coded : BytesOf (x .answer) v) where
     front : List ℕ
     front = answers-bytes (w .plays .answers)
 
@@ -100,7 +100,7 @@ module _ (g : Gate) (bs b : List ℕ) (n : ℕ) (z : List ℕ) (h : Gate) (i : �
       sound = called .sound;
       plays = record {
         answers = w .plays .answers ++ answer-of (x .answer) ∷ [];
-        chain = rw more (chain-snoc (w .plays .chain) x called);
+        chain = rw more (chain-snoc (w .plays .chain) (x .answer) called);
         buffer = buffer-more;
         sound = called .sound;
       };

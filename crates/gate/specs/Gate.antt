@@ -13,7 +13,6 @@ use Rattle.gate.specs.declared.Reply.{Reply}
 use Rattle.gate.specs.declared.Reply.the-variants.{Place, Withdrawn, Refused}
 use Rattle.gate.specs.declared.Gate.{Gate}
 use Rattle.gate.specs.declared.Opened.{Opened}
-use Rattle.gate.specs.declared.Called.{Called}
 
 -- document 01's answer for each case of the enum; a refusal is its number
 abbrev pub answer-of : Reply → Answer
@@ -50,8 +49,8 @@ pub record OpenedAs (o : Outcome) (x : Opened) : Type 0 where
   pub state : state-of (x .gate) ≡ newly-opened
   pub sound : Sound (x .gate)
 
--- what a call on the record g promises: the plain gate's answer and next state, and the same book
-pub record CalledAs (g : Gate) (x : Call) (r : Called) : Type 0 where
-  pub plain : PlainCall (book-of g) (state-of g) x (answer-of (r .answer)) (state-of (r .gate))
-  pub book : book-of (r .gate) ≡ book-of g
-  pub sound : Sound (r .gate)
+-- what a call promises, of the record g at entry, its answer, and the record h at exit: the plain gate's answer and next state, and the same book
+pub record CalledAs (g : Gate) (x : Call) (a : Reply) (h : Gate) : Type 0 where
+  pub plain : PlainCall (book-of g) (state-of g) x (answer-of a) (state-of h)
+  pub book : book-of h ≡ book-of g
+  pub sound : Sound h

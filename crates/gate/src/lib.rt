@@ -16,6 +16,7 @@ use book::Cause;
 use judge::Verdict;
 
 // The book, whose history is the kept list, and a flag for each run: 1 once it is withdrawn, else 0.
+#[repr(C)]
 pub struct Gate {
     pub book: Book,
     pub withdrawn: [u8; Book::RUNS],
@@ -134,10 +135,10 @@ fn passes(b: Book) -> bool
     }
 }
 
-// Step r: refused by 20, 21, 22, 23 in that order; else r joins the end of the kept list, and the answer is its place.
-pub fn step_value(g: Gate, r: u8) -> Called
+// Step r on a record by value.
+fn step_value(g: Gate, r: u8) -> Called
     requires { ⌜ Sound g ⌝ }
-    ensures { λ x. ⌜ CalledAs g (step-call r) x ⌝ }
+    ensures { λ x. ⌜ CalledAs g (step-call r) (x .answer) (x .gate) ⌝ }
 {
     let b = g.book;
     let withdrawn = g.withdrawn;
@@ -169,10 +170,10 @@ pub fn step_value(g: Gate, r: u8) -> Called
     }
 }
 
-// Withdraw r: refused by 20, 21, 22 in that order; else r is withdrawn, and the kept list stays.
-pub fn withdraw_value(g: Gate, r: u8) -> Called
+// Withdraw r on a record by value.
+fn withdraw_value(g: Gate, r: u8) -> Called
     requires { ⌜ Sound g ⌝ }
-    ensures { λ x. ⌜ CalledAs g (withdraw-call r) x ⌝ }
+    ensures { λ x. ⌜ CalledAs g (withdraw-call r) (x .answer) (x .gate) ⌝ }
 {
     let b = g.book;
     let withdrawn = g.withdrawn;
@@ -195,15 +196,54 @@ pub fn withdraw_value(g: Gate, r: u8) -> Called
     }
 }
 
+// Step r: refused by 20, 21, 22, 23 in that order; else r joins the end of the kept list, and the answer is its place.
+pub fn step(g: &mut Gate, r: u8) -> Reply
+    requires { ⌜ Sound (now g) ⌝ }
+    ensures { λ a. ⌜ CalledAs (now (g .entry)) (step-call r) a (now (g .exit)) ⌝ }
+{
+    let called = step_value(*g, r);
+    *g = called.gate;
+    called.answer
+}
+
+// Withdraw r: refused by 20, 21, 22 in that order; else r is withdrawn, and the kept list stays.
+pub fn withdraw(g: &mut Gate, r: u8) -> Reply
+    requires { ⌜ Sound (now g) ⌝ }
+    ensures { λ a. ⌜ CalledAs (now (g .entry)) (withdraw-call r) a (now (g .exit)) ⌝ }
+{
+    let called = withdraw_value(*g, r);
+    *g = called.gate;
+    called.answer
+}
+
+// The same for callers that hold the record by value.
+pub fn after_step(g: Gate, r: u8) -> Called
+    requires { ⌜ Sound g ⌝ }
+    ensures { λ x. ⌜ CalledAs g (step-call r) (x .answer) (x .gate) ⌝ }
+{
+    let mut h = g;
+    let answer = step(&mut h, r);
+    Called { answer, gate: h }
+}
+
+pub fn after_withdraw(g: Gate, r: u8) -> Called
+    requires { ⌜ Sound g ⌝ }
+    ensures { λ x. ⌜ CalledAs g (withdraw-call r) (x .answer) (x .gate) ⌝ }
+{
+    let mut h = g;
+    let answer = withdraw(&mut h, r);
+    Called { answer, gate: h }
+}
+
 // One call in two bytes: 0x53 and a run steps it, 0x57 and a run withdraws it.
 fn call_value(g: Gate, op: u8, r: u8) -> Called
     requires { ⌜ Sound g ⌝ }
-    ensures { λ x. ⌜ CalledAs g (call-of op r) x ⌝ }
+    ensures { λ x. ⌜ CalledAs g (call-of op r) (x .answer) (x .gate) ⌝ }
 {
     if op == 0x53 {
-        return step_value(g, r);
+        return after_step(g, r);
     }
-    withdraw_value(g, r)
+    after_withdraw(g, r)
 }
 
 // The two bytes of an answer: 0 and the place, 1 and 0 for "withdrawn", 2 and a refusal's number.

@@ -4,18 +4,18 @@ use borrow.Author.Needs.{needs}
 use Rattle.gate.proofs.call_value.Statement.{statement}
 use Rattle.gate.proofs.call_value.Tie as tie
 
-step-value-requires : tie.Need-step-value-requires
-step-value-requires c κs = search needs
+after-step-requires : tie.Need-after-step-requires
+after-step-requires c κs = search needs
 
 returns : tie.Need-returns
 returns c = search call-step
 
-withdraw-value-requires : tie.Need-withdraw-value-requires
-withdraw-value-requires c κs = search needs
+after-withdraw-requires : tie.Need-after-withdraw-requires
+after-withdraw-requires c κs = search needs
 
 returns-2 : tie.Need-returns-2
 returns-2 c = search call-withdraw
 
 pub call-value-spec : {M : Type 1} → statement M
 call-value-spec =
-    tie.close (tie.spec step-value-requires returns withdraw-value-requires returns-2)
+    tie.close (tie.spec after-step-requires returns after-withdraw-requires returns-2)

@@ -1,0 +1,22 @@
+-- `after_withdraw` is `withdraw` on a local record (Holder.antt).
+use contract.Running.{givenOf, tables, tablesOf}
+use denote.Triple.Spec.{tripleOf}
+use denote.Triple.Table.{entered, cited}
+use Rattle.gate.specs.Plain.{withdraw as the-call}
+use Rattle.gate.proofs.Lent.{Lent}
+use Rattle.gate.proofs.Holder.{meets}
+use Rattle.gate.proofs.withdraw.Symbol as lent-def
+use Rattle.gate.proofs.withdraw.Symbol.{name as #gate·withdraw}
+use Rattle.gate.proofs.withdraw.Met as lent-thm
+use Rattle.gate.proofs.after_withdraw.Key.{name as #gate·after-withdraw}
+use Rattle.gate.proofs.after_withdraw as after
+use Rattle.gate.proofs.after_withdraw.Statement as stated
+use Rattle.gate.proofs.after_withdraw.Code as code
+
+pub after-withdraw-spec : {M : Type 1} → stated.statement M
+unfolding code.routine tablesOf
+after-withdraw-spec 𝓤 H 𝓜 𝓖 𝓡 =
+    entered 𝓤 H (tripleOf 𝓤 H (𝓖 .A) after.signature (after.spec 𝓤 H (𝓖 .A) (𝓜 .mem) (𝓡 .run)))
+    (tables 𝓤 H 𝓜 𝓡 code.env .C) (tables 𝓤 H 𝓜 𝓡 code.env .Λ) #gate·after-withdraw code.function (code.unfolded 𝓤 H 𝓜 𝓡)
+    (meets the-call #gate·withdraw 𝓤 H (𝓖 .A) (givenOf 𝓤 H 𝓜 𝓖) (tablesOf 𝓤 H 𝓜 (tables 𝓤 H 𝓜 𝓡 code.env))
+    (cited 𝓤 H (Lent the-call 𝓤 H (𝓖 .A)) 𝓜 𝓡 code.env #gate·withdraw lent-def.routine code.calls-gate·withdraw (lent-thm.met 𝓤 H 𝓜 𝓖 𝓡)))
