@@ -94,11 +94,30 @@ static void compare_writer(source *s, const uint8_t *book, size_t len, plain_ref
     }
 }
 
-/* Replays a list of calls on the proved gate and on the plain one, and checks demand 3's sentences on the answers. */
+/* The record holds the plain gate's kept list and withdrawn runs. */
+static int same_state(const deck_gate *live, const plain_gate *g) {
+    int same = live->runs == (uint64_t)g->book.runs && live->kept_count == (uint64_t)g->book.n && memcmp(live->kept, g->book.history, (size_t)g->book.n) == 0;
+    for (int r = 0; r < PLAIN_RUNS; r++)
+        same = same && live->withdrawn[r] == g->withdrawn[r];
+    return same;
+}
+
+/* Opens a gate over a refused book: it has no runs, whatever the record held before. */
+static void compare_refused_gate(const uint8_t *book, size_t len, plain_refusal r) {
+    deck_gate live;
+    plain_gate empty = {0};
+    memset(&live, 0xee, sizeof live);
+    compare_answer(deck_open(book, len, &live), r, 0, "gate: refused opening");
+    expect(same_state(&live, &empty) && live.steps == 0, "gate: no runs over a refused book");
+    expect(deck_step(&live, 0).number == 20 && deck_withdraw(&live, 0).number == 20, "gate: a call on a gate without runs");
+}
+
+/* Makes a list of calls on the proved gate, by replay and one by one on a record, and on the plain gate, and checks demand 3's sentences on the answers. */
 static void compare_gate(source *s, const uint8_t *book, size_t len, const plain_book *b, plain_refusal r) {
     static uint8_t calls[2 * CALLS + 1], answers[2 * CALLS + 8];
     int tangled[256] = {0}, withdrawn[256] = {0};
     plain_gate g;
+    deck_gate live;
     size_t n = below(s, CALLS), bad = 2 * n;
     for (size_t i = 0; i < n; i++) {
         calls[2 * i] = below(s, 8) ? 0x53 : 0x57;
@@ -116,10 +135,18 @@ static void compare_gate(source *s, const uint8_t *book, size_t len, const plain
     }
     expect(a.number == 0 && a.place == 0 && a.value == n && untouched(answers, 2 * n, sizeof answers, 0x33), "gate: answer");
     plain_open(b, &g);
+    memset(&live, 0xee, sizeof live);
+    compare_answer(deck_open(book, len, &live), r, 0, "gate: opening");
+    expect(same_state(&live, &g), "gate: the record as opened");
     for (size_t i = 0; i < n; i++) {
         int run = calls[2 * i + 1], step = calls[2 * i] == 0x53, want = step ? plain_step(&g, run) : plain_withdraw(&g, run);
         int kind = want < 0 ? 2 : step ? 0 : 1, value = want < 0 ? -want : step ? want : 0;
         expect(answers[2 * i] == kind && answers[2 * i + 1] == value, "gate: an answer");
+        deck_gate before = live;
+        a = step ? deck_step(&live, (uint8_t)run) : deck_withdraw(&live, (uint8_t)run);
+        expect(a.number == (uint64_t)(want < 0 ? -want : 0) && a.place == 0 && a.value == (uint64_t)(want > 0 ? want : 0), "gate: an answer on the record");
+        expect(same_state(&live, &g), "gate: the record after a call");
+        expect(want >= 0 || memcmp(&live, &before, sizeof live) == 0, "gate: the record after a refused call");
         expect(!(step && kind == 0 && (tangled[run] || withdrawn[run])), "gate: a tangled or withdrawn run admitted later");
         tangled[run] |= step && want == -23;
         withdrawn[run] |= !step && want >= 0;
@@ -161,6 +188,8 @@ static void compare(source *s, const uint8_t *book, size_t len) {
         compare_answer(deck_check_cycle(book, len, found, (size_t)count), r, 1, "cycle check of the judge's cycle");
     compare_writer(s, book, len, r);
     compare_gate(s, book, len, &b, r);
+    if (r.number)
+        compare_refused_gate(book, len, r);
 }
 
 int main(void) {

@@ -17,6 +17,23 @@ struct RawAnswer {
     value: u64,
 }
 
+/// A gate's record, as `include/deck.h` lays it out.
+#[repr(C)]
+#[derive(Clone)]
+struct RawGate {
+    pairs: [u8; 256],
+    cuts: [u8; 8192],
+    kinds: [u8; 128],
+    positions: [u16; 128],
+    steps_of: [u8; 16],
+    kept_of: [u8; 16],
+    kept: [u8; 128],
+    runs: u64,
+    steps: u64,
+    kept_count: u64,
+    withdrawn: [u8; 16],
+}
+
 extern "C" {
     fn deck_read(book: *const c_uchar, len: usize) -> RawAnswer;
     fn deck_judge(
@@ -35,6 +52,9 @@ extern "C" {
     fn deck_check_cycle(book: *const c_uchar, len: usize, list: *const c_uchar, list_len: usize) -> RawAnswer;
     fn deck_arc(book: *const c_uchar, len: usize, from: usize, to: usize) -> RawAnswer;
     fn deck_write(book: *const c_uchar, len: usize, out: *mut c_uchar, out_len: usize) -> RawAnswer;
+    fn deck_open(book: *const c_uchar, len: usize, gate: *mut RawGate) -> RawAnswer;
+    fn deck_step(gate: *mut RawGate, run: u8) -> RawAnswer;
+    fn deck_withdraw(gate: *mut RawGate, run: u8) -> RawAnswer;
     fn deck_replay(
         book: *const c_uchar,
         len: usize,
@@ -145,6 +165,47 @@ pub enum Reply {
     Refused(u8),
 }
 
+/// A gate that is held open over a book: one record, updated by each call.
+#[derive(Clone)]
+pub struct Gate {
+    record: Box<RawGate>,
+}
+
+impl Gate {
+    /// A gate over the book, whose own history plays no part: no step is kept, no run withdrawn.
+    pub fn open(book: &[u8]) -> Result<Gate, Refusal> {
+        let mut record: Box<RawGate> = Box::new(unsafe { std::mem::zeroed() });
+        answered(unsafe { deck_open(book.as_ptr(), book.len(), &mut *record) })?;
+        Ok(Gate { record })
+    }
+
+    /// The place of an admitted step, or the refusal, which changes nothing.
+    pub fn step(&mut self, run: u8) -> Reply {
+        match answered(unsafe { deck_step(&mut *self.record, run) }) {
+            Ok(place) => Reply::Place(place as u8),
+            Err(refusal) => Reply::Refused(refusal.number as u8),
+        }
+    }
+
+    /// Withdraws the run, or is refused and changes nothing.
+    pub fn withdraw(&mut self, run: u8) -> Reply {
+        match answered(unsafe { deck_withdraw(&mut *self.record, run) }) {
+            Ok(_) => Reply::Withdrawn,
+            Err(refusal) => Reply::Refused(refusal.number as u8),
+        }
+    }
+
+    /// The run numbers of the kept steps, in order.
+    pub fn kept(&self) -> &[u8] {
+        &self.record.kept[..self.record.kept_count as usize]
+    }
+
+    /// The withdrawn runs, in rising order.
+    pub fn withdrawn(&self) -> Vec<u8> {
+        (0..self.record.runs as u8).filter(|&run| self.record.withdrawn[run as usize] == 1).collect()
+    }
+}
+
 /// The answers of a gate newly opened over the book to a list of calls, made in turn.
 pub fn replay(book: &[u8], calls: &[Call]) -> Result<Vec<Reply>, Refusal> {
     let bytes: Vec<u8> = calls
@@ -237,6 +298,19 @@ mod tests {
         let answers = [Place(0), Place(1), Place(2), Refused(23), Withdrawn, Refused(21), Refused(22), Refused(20)];
         assert_eq!(replay(&book("row02"), &calls), Ok(answers.to_vec()));
         assert_eq!(replay(&[], &calls), Err(Refusal { number: 3, place: 0 }));
+    }
+
+    #[test]
+    fn a_gate_is_held_open_and_stepped() {
+        let mut gate = Gate::open(&book("row02")).unwrap();
+        assert_eq!([gate.step(0), gate.step(1), gate.step(1)], [Reply::Place(0), Reply::Place(1), Reply::Place(2)]);
+        let before = gate.clone();
+        assert_eq!(gate.step(0), Reply::Refused(23));
+        assert_eq!(gate.kept(), before.kept());
+        assert_eq!(gate.withdraw(0), Reply::Withdrawn);
+        assert_eq!([gate.step(0), gate.step(1), gate.step(2)], [Reply::Refused(21), Reply::Refused(22), Reply::Refused(20)]);
+        assert_eq!((gate.kept(), gate.withdrawn()), (&[0, 1, 1][..], vec![0]));
+        assert_eq!(Gate::open(&[0x45, 0x45]).err(), Some(Refusal { number: 11, place: 1 }));
     }
 
     #[test]
