@@ -29,7 +29,7 @@ marked-from i k (x ∷ xs) l e = go (marked-from (suc i) k xs l) (ℕ-discrete x
     go f (yes d) = omega (arith, f (rw (eq-eqb x 0 d) at e))
     go f (no d) = let q : i ∷ marked (suc i) xs ≡ k ∷ l = rw (ne-eqb x 0 d) at e in let r : i ≡ k = cc in omega arith
 
-flags-same : (i : ℕ) (xs ys : List ℕ) → length xs ≡ length ys → ((k : ℕ) → getD xs k 0 ≤ 1) → ((k : ℕ) → getD ys k 0 ≤ 1) → marked i xs ≡ marked i ys → xs ≡ ys
+pub flags-same : (i : ℕ) (xs ys : List ℕ) → length xs ≡ length ys → ((k : ℕ) → getD xs k 0 ≤ 1) → ((k : ℕ) → getD ys k 0 ≤ 1) → marked i xs ≡ marked i ys → xs ≡ ys
 flags-same i [] [] e f g m = refl
 flags-same i [] (y ∷ ys) e f g m = absurd (omega arith)
 flags-same i (x ∷ xs) [] e f g m = absurd (omega arith)

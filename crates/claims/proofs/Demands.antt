@@ -29,13 +29,13 @@ use Rattle.judge.specs.declared.Judgement.{Judgement}
 use Rattle.judge.specs.declared.Verdict.{Verdict}
 use Rattle.judge.specs.declared.Verdict.the-variants.{Passed, Tangled, Refused as NotJudged}
 use Rattle.judge.proofs.Uncut.{bytes-passed, uncut-passed}
-use Rattle.gate.specs.Plain.{Call, Answer as Reply, State, PlainCall, step-refused, step-tangled, step-kept, withdraw-refused, withdraws}
-use Rattle.gate.specs.Plain.{refused as call-refused}
+use Rattle.gate.specs.Plain.{Call, Answer as Reply}
 use Rattle.gate.specs.Gate.{OpenedAs, state-of}
 use Rattle.gate.specs.Chain.{Chain}
 use Rattle.gate.specs.Demand.{Demand3}
 use Rattle.gate.specs.declared.Gate.{Gate}
 use Rattle.gate.specs.declared.Opened.{Opened}
+use Rattle.gate.proofs.Unchanged.{refused-unchanged}
 use Rattle.gate.proofs.Chained.{demand-3 as gate-demand}
 use Rattle.claims.specs.Demands.{Demand1, Demand2}
 
@@ -69,13 +69,6 @@ module _ (order order′ cycle cycle′ : List ℕ) (r : Judgement) where
 writer-kept : (s before : List ℕ) (w : Written) (cause : Cause) (place : ℕ) (after : List ℕ) → NotWritten cause place ≡ w → after ≡ buffer-by w s before → after ≡ before
 writer-kept s before w cause place after e f = f ∙ rw (← e)
 
-gate-kept : (c : Contents) (g h : State) (x : Call) (a : Reply) (n : ℕ) → PlainCall c g x a h → a ≡ call-refused n → h ≡ g
-gate-kept c g h x a n (step-refused d) e = refl
-gate-kept c g h x a n (step-tangled d t) e = refl
-gate-kept c g h x a n (step-kept d t) e = let z : _≡_ {A = ℕ} 0 1 = cc in absurd (omega arith)
-gate-kept c g h x a n (withdraw-refused d) e = refl
-gate-kept c g h x a n (withdraws d) e = let z : _≡_ {A = ℕ} 0 1 = cc in absurd (omega arith)
-
 pub demand-1 : Demand1
 unfolding Kept
 demand-1 = record {
@@ -84,7 +77,7 @@ demand-1 = record {
   judge-refused = λ s order order′ cycle cycle′ r cause place j a b e. subst (λ (o : Outcome). OutcomeJudged order order′ cycle cycle′ o r) e (j .long a b) .verdict-is;
   judge-kept = λ s order order′ cycle cycle′ r cause place j e. bytes-kept order order′ cycle cycle′ r s cause place j e;
   writer-kept = λ s before after cause place w. writer-kept s before (written s (length before)) cause place after (w .answer) (w .buffer);
-  gate-kept = λ c g h x n p. gate-kept c g h x (call-refused n) n p refl;
+  gate-kept = refused-unchanged;
 }
 
 -- ---- demand 2

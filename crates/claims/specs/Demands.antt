@@ -20,8 +20,10 @@ use Rattle.writer.specs.declared.Written.the-variants.{Refused as NotWritten}
 use Rattle.judge.specs.Judge.{BytesJudged}
 use Rattle.judge.specs.declared.Judgement.{Judgement}
 use Rattle.judge.specs.declared.Verdict.the-variants.{Passed, Refused as NotJudged}
-use Rattle.gate.specs.Plain.{Call, State, PlainCall}
-use Rattle.gate.specs.Plain.{refused as call-refused}
+use Rattle.gate.specs.Plain.{Call}
+use Rattle.gate.specs.Gate.{Sound, CalledAs}
+use Rattle.gate.specs.declared.Gate.{Gate}
+use Rattle.gate.specs.declared.Reply.the-variants.{Refused as CallRefused}
 
 -- Demand 1. Nothing refused changes a buffer or the gate, and each refusal has the number and place in document 01: the cause and place of
 -- the format, whose numbers book's `number` gives.
@@ -35,7 +37,8 @@ pub record Demand1 : Type 0 where
   pub judge-kept : (s order order′ cycle cycle′ : List ℕ) (r : Judgement) (cause : Cause) (place : ℕ) → BytesJudged order order′ cycle cycle′ s r
       → r .verdict ≡ NotJudged cause place → (order′ ≡ order) × (cycle′ ≡ cycle) × (r .count ≡ 0)
   pub writer-kept : (s before after : List ℕ) (cause : Cause) (place : ℕ) → Wrote s before after (NotWritten cause place) → after ≡ before
-  pub gate-kept : (c : Contents) (g h : State) (x : Call) (n : ℕ) → PlainCall c g x (call-refused n) h → h ≡ g
+  -- no byte of the gate's record changes
+  pub gate-kept : (g h : Gate) (x : Call) (cause : Cause) → Sound g → CalledAs g x (CallRefused cause) h → h ≡ g
 
 -- Demand 2, of a judgement r on the bytes of a book with contents c, and of the buffers after the call.
 pub record Demand2 (c : Contents) (order′ cycle′ : List ℕ) (r : Judgement) : Type 0 where

@@ -2,6 +2,7 @@
 pub mod PlainGate
 pub mod Demand
 pub mod Records
+pub mod Unchanged
 pub mod Chained
 pub mod CallBytes
 pub mod Replays

@@ -219,7 +219,7 @@ pub fn withdraw(g: &mut Gate, r: u8) -> Reply
 // The same for callers that hold the record by value.
 pub fn after_step(g: Gate, r: u8) -> Called
     requires { ⌜ Sound g ⌝ }
-    ensures { λ x. ⌜ CalledAs g (step-call r) (x .answer) (x .gate) ⌝ }
+    ensures { λ called. ⌜ CalledAs g (step-call r) (called .answer) (called .gate) ⌝ }
 {
     let mut h = g;
     let answer = step(&mut h, r);
@@ -228,7 +228,7 @@ pub fn after_step(g: Gate, r: u8) -> Called
 
 pub fn after_withdraw(g: Gate, r: u8) -> Called
     requires { ⌜ Sound g ⌝ }
-    ensures { λ x. ⌜ CalledAs g (withdraw-call r) (x .answer) (x .gate) ⌝ }
+    ensures { λ called. ⌜ CalledAs g (withdraw-call r) (called .answer) (called .gate) ⌝ }
 {
     let mut h = g;
     let answer = withdraw(&mut h, r);
