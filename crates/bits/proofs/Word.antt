@@ -30,9 +30,6 @@ bit-or a b k = ap (λ (x : ℕ). x % 2) (or-shr a b k) ∙ or-low (a / 2 ^ k) (b
 pub bit-half : (n k : ℕ) → bit n (suc k) ≡ bit (n / 2) k
 bit-half n k = sym (ap (λ (x : ℕ). x % 2) (shr-shr n 1 k ∙ ap (λ (x : ℕ). n / 2 ^ x) (one-add k)))
 
-pub bit-shr : (n s k : ℕ) → bit (n / 2 ^ s) k ≡ bit n (s + k)
-bit-shr n s k = ap (λ (x : ℕ). x % 2) (shr-shr n s k)
-
 -- a number below 2 ^ k has no bit k
 pub bit-over : (n k : ℕ) → n < 2 ^ k → bit n k ≡ 0
 bit-over n k h = ap (λ (x : ℕ). x % 2) (div-eq-of-lt h)

@@ -2,7 +2,7 @@
 use mathlib.Core.Path.{_≡_}
 use Prim.Native.Nat.{ℕ, _-_, _≤_, _<_}
 use Rattle.bits.specs.Table.{row-bits}
-use Rattle.bits.specs.First.{NoneFrom}
+use Rattle.bits.specs.First.{NoColumn}
 use Rattle.bits.specs.declared.Found.{Found}
 use Rattle.bits.specs.declared.Found.the-variants.{At, Nothing}
 
@@ -21,4 +21,4 @@ pub record LastAt (f : ℕ → ℕ) (c : ℕ) : Type 0 where
 -- what a search of f for its last column finds
 abbrev pub Last : (ℕ → ℕ) → Found → Type 0
 Last f (At c) = LastAt f c
-Last f Nothing = NoneFrom f 0
+Last f Nothing = NoColumn f

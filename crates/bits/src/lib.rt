@@ -93,24 +93,6 @@ pub fn join_within(t: &mut Table, dst: usize, u: &Table, src: usize, mask: &Row)
     }
 }
 
-// The first marked column of the row at or after `from`.
-pub fn next(t: &Table, row: usize, from: usize) -> Found
-    requires { ⌜ row < rows ⌝ }
-    ensures { λ r. ⌜ First (bit-at (now (t .entry)) row) from r ⌝ }
-{
-    let mut k = from / 64;
-    let mut low = from % 64;
-    while k < ROW_WORDS {
-        let b = low + u64::trailing_zeros(t[ROW_WORDS * row + k] >> low) as usize;
-        if b < 64 {
-            return Found::At(64 * k + b);
-        }
-        low = 0;
-        k += 1;
-    }
-    Found::Nothing
-}
-
 // The bits of w that are not in m.
 fn outside(w: u64, m: u64) -> u64
     ensures { λ r. ⌜ ((b : ℕ) → b < 64 → bit r b ≡ difference (bit w) (bit m) b) ⌝ }
@@ -121,7 +103,7 @@ fn outside(w: u64, m: u64) -> u64
 // The first marked column of the row that is not in the mask.
 pub fn first_outside(t: &Table, row: usize, mask: &Row) -> Found
     requires { ⌜ row < rows ⌝ }
-    ensures { λ r. ⌜ First (difference (bit-at (now (t .entry)) row) (bit-at (now (mask .entry)) 0)) 0 r ⌝ }
+    ensures { λ r. ⌜ First (difference (bit-at (now (t .entry)) row) (bit-at (now (mask .entry)) 0)) r ⌝ }
 {
     for k in 0..ROW_WORDS {
         let b = u64::trailing_zeros(outside(t[ROW_WORDS * row + k], mask[k])) as usize;

@@ -9,7 +9,7 @@ use mir.Syntax.{w8}
 use lib.ListN.{length, getD, set}
 use Rattle.book.specs.Format.{Contents, Move, Outcome, on, over, refused, accepted, follow, command-at, read-from, read-commands, read}
 use Rattle.book.specs.Book.{contents-of, empty-book, ReadAs}
-use Rattle.book.specs.Reader.{at-start, past-pair, past-run, past-step, past-cut, past-done, accepted-as, Ahead, so-far, state-of, Underway, Tables, move-of, Room, RoomStep, RoomDone, width, Decides}
+use Rattle.book.specs.Reader.{at-start, past-pair, past-run, past-step, past-cut, past-done, accepted-as, so-far, state-of, Underway, Tables, move-of, Room, RoomStep, RoomDone, width, MayTake, TakenAs}
 use Rattle.book.specs.declared.Cause.{Cause}
 use Rattle.book.specs.declared.Cause.the-variants.{BookTooLong}
 use Rattle.book.specs.declared.Book.{Book}
@@ -26,16 +26,16 @@ use Rattle.book.proofs.Empty.{represents-empty, underway-empty, content
 pub refused-as : (cause : Cause) (place : ℕ) (b : Book) → b ≡ empty-book → ReadAs (refused cause place) (record { answer = No cause place; book = b })
 refused-as cause place b e = record { outcome = refl; valid = rw e (represents-empty .valid); empty = λ k q d. e }
 
--- the tables and the progress are those of the format's reader, which has yet to read what makes the whole outcome
-pub record Rest (s : List ℕ) (b : Book) (p : Progress) : Type 0 where
+-- the tables, the offset and the progress are those of the format's reader, which has yet to read what makes the whole outcome
+pub record Rest (s : List ℕ) (b : Book) (at : ℕ) (p : Progress) : Type 0 where
   pub short : length s ≤ 16384
   pub underway : Underway b p
-  pub inside : p .at ≤ length s
+  pub inside : at ≤ length s
   pub fuel : ℕ
-  pub enough : length s - p .at < fuel
-  pub rest : read-from fuel s (p .at) (state-of b p) ≡ read-commands s
+  pub enough : length s - at < fuel
+  pub rest : read-from fuel s at (state-of b p) ≡ read-commands s
 
-pub begins : (s : List ℕ) (b : Book) (p : Progress) → length s ≤ 16384 → b ≡ empty-book → p ≡ at-start → Rest s b p
+pub begins : (s : List ℕ) (b : Book) (p : Progress) → length s ≤ 16384 → b ≡ empty-book → p ≡ at-start → Rest s b 0 p
 unfolding read-commands
 begins s b p l e f = rw (e, f) (record {
   short = l;
@@ -45,6 +45,9 @@ begins s b p l e f = rw (e, f) (record {
   enough = omega arith;
   rest = ap (λ (d : Contents). read-from (suc (length s)) s 0 (record { group = 0; contents = d })) contents-empty;
 })
+
+pub stands : (s : List ℕ) (b : Book) (at : ℕ) (p : Progress) → Rest s b at p → MayTake s at p
+stands s b at p i = record { within = i .inside; short = i .short; few = i .underway .valid .few-runs }
 
 -- the tables after a step, and after a done step whose run is n as a number and r as a byte
 abbrev with-step-at : Book → ℕ → ℕ → ℕ → ℕ → Book
@@ -75,102 +78,100 @@ with-done-at b place n r = record {
   done = b .done;
 }
 
-module _ (s : List ℕ) (b : Book) (p : Progress) (c : Command) (i : Rest s b p) (w : Decides (Tables (b .lens) (b .dones)) command-at s p c) where
+module _ (s : List ℕ) (b : Book) (at : ℕ) (p : Progress) (c : Command) (behind : ℕ) (i : Rest s b at p) (w : TakenAs (b .lens) (b .dones) s at p c behind) where
   lent : Tables (b .lens) (b .dones) b
   lent = record { lens-are = refl; dones-are = refl }
 
   room : (d : Command) → c ≡ d → Room d b p
-  room d e = subst (λ (x : Command). Room x b p) e (w .room b (i .underway) lent)
+  room d e = subst (λ (x : Command). Room x b p) e (w .decides .room b (i .underway) lent)
 
-  ends : (d : Command) → c ≡ d → p .at + width d ≤ length s
-  ends d e = subst (λ (x : Command). p .at + width x ≤ length s) e (w .ends (i .inside))
+  offset : (d : Command) → c ≡ d → behind ≡ at + width d
+  offset d e = w .moved ∙ ap (λ (x : Command). at + width x) e
 
-  moves : (d : Command) → c ≡ d → command-at s (p .at) (state-of b p) ≡ move-of d b p
-  moves d e = sym (w .move b (i .underway) lent) ∙ ap (λ (x : Command). move-of x b p) e
+  ends : behind ≤ length s
+  ends = omega (arith, w .moved, w .decides .ends (i .inside))
 
-  goes : (b′ : Book) (q : Progress) → command-at s (p .at) (state-of b p) ≡ on (q .at) (state-of b′ q) → Underway b′ q → p .at < q .at → q .at ≤ length s
-      → (k : ℕ) → length s - p .at < k → read-from k s (p .at) (state-of b p) ≡ read-commands s → Rest s b′ q
+  moves : (d : Command) → c ≡ d → command-at s at (state-of b p) ≡ move-of d b at p
+  moves d e = sym (w .decides .move b (i .underway) lent) ∙ ap (λ (x : Command). move-of x b at p) e
+
+  goes : (b′ : Book) (q : Progress) → command-at s at (state-of b p) ≡ on behind (state-of b′ q) → Underway b′ q → at < behind
+      → (k : ℕ) → length s - at < k → read-from k s at (state-of b p) ≡ read-commands s → Rest s b′ behind q
   unfolding read-from
-  goes b′ q e y l h zero n r = absurd (omega arith)
-  goes b′ q e y l h (suc k) n r = record {
+  goes b′ q e y l zero n r = absurd (omega arith)
+  goes b′ q e y l (suc k) n r = record {
     short = i .short;
     underway = y;
-    inside = h;
+    inside = ends;
     fuel = k;
-    enough = omega arith;
+    enough = omega (arith, ends);
     rest = ap (λ (m : Move). follow m (read-from k s)) (sym e) ∙ r;
   }
 
-  stops : (o : Outcome) → command-at s (p .at) (state-of b p) ≡ over o → (k : ℕ) → length s - p .at < k → read-from k s (p .at) (state-of b p) ≡ read-commands s → o ≡ read-commands s
+  stops : (o : Outcome) → command-at s at (state-of b p) ≡ over o → (k : ℕ) → length s - at < k → read-from k s at (state-of b p) ≡ read-commands s → o ≡ read-commands s
   unfolding read-from
   stops o e zero n r = absurd (omega arith)
   stops o e (suc k) n r = ap (λ (m : Move). follow m (read-from k s)) (sym e) ∙ r
 
   -- the next turn, by what the book holds then
-  turn : (d : Command) → c ≡ d → (b′ : Book) (q : Progress) → move-of d b p ≡ on (q .at) (state-of b′ q) → Underway b′ q → p .at < q .at → q .at ≤ length s → Rest s b′ q
-  turn d e b′ q m y l h = goes b′ q (moves d e ∙ m) y l h (i .fuel) (i .enough) (i .rest)
+  turn : (d : Command) → c ≡ d → (b′ : Book) (q : Progress) → move-of d b at p ≡ on (at + width d) (state-of b′ q) → Underway b′ q → 0 < width d → Rest s b′ behind q
+  turn d e b′ q m y l =
+      goes b′ q (moves d e ∙ m ∙ ap (λ (n : ℕ). on n (state-of b′ q)) (sym (offset d e))) y (omega (arith, offset d e)) (i .fuel) (i .enough) (i .rest)
+
+  less : (d : Command) → c ≡ d → 0 < width d → length s - behind < length s - at
+  less d e l = omega (arith, offset d e, ends)
 
   module _ (x : ℕ) (e : c ≡ Pair x) where
     pub pair-low : x < 256
     pair-low = room (Pair x) e .low
 
-    pub pair-ahead : Ahead (p .at) 3 x 256
-    pair-ahead = record { fits = omega (arith, ends (Pair x) e, i .short); low = pair-low }
-
-    pub pair-again : (q : Progress) → q ≡ past-pair p x → Rest s (with-pair b x) q
+    pub pair-again : (q : Progress) → q ≡ past-pair p x → Rest s (with-pair b x) behind q
     pair-again q f =
         let g = represents-pair (so-far b p) (p .«next_pair») x (i .underway .valid) (i .underway .pairs) (room (Pair x) e) in
         rw f (turn (Pair x) e (with-pair b x) (past-pair p x)
-        (ap (λ (d : Contents). on (p .at + 3) (record { group = 0; contents = d })) (sym (g .contents)))
+        (ap (λ (d : Contents). on (at + 3) (record { group = 0; contents = d })) (sym (g .contents)))
         (record {
           valid = g .valid;
           pairs = next-more (b .pairs) (p .«next_pair») x (i .underway .pairs) (room (Pair x) e .rising) (omega (arith, pair-low, i .underway .valid .pairs .long));
           cuts = i .underway .cuts;
         })
-        (omega arith)
-        (ends (Pair x) e))
+        (omega arith))
 
-    pub pair-less : (q : Progress) → q ≡ past-pair p x → length s - q .at < length s - p .at
-    pair-less q f = rw f (omega (arith, ends (Pair x) e))
+    pub pair-less : length s - behind < length s - at
+    pair-less = less (Pair x) e (omega arith)
 
   module _ (x : ℕ) (e : c ≡ Cut x) where
     pub cut-low : x < 8192
     cut-low = room (Cut x) e .low
 
-    pub cut-ahead : Ahead (p .at) 4 x 8192
-    cut-ahead = record { fits = omega (arith, ends (Cut x) e, i .short); low = cut-low }
-
-    pub cut-again : (q : Progress) → q ≡ past-cut p x → Rest s (with-cut b x) q
+    pub cut-again : (q : Progress) → q ≡ past-cut p x → Rest s (with-cut b x) behind q
     cut-again q f =
         let g = represents-cut (so-far b p) (p .«next_cut») x (i .underway .valid) (i .underway .cuts) (room (Cut x) e) in
         rw f (turn (Cut x) e (with-cut b x) (past-cut p x)
-        (ap (λ (d : Contents). on (p .at + 4) (record { group = 2; contents = d })) (sym (g .contents)))
+        (ap (λ (d : Contents). on (at + 4) (record { group = 2; contents = d })) (sym (g .contents)))
         (record {
           valid = g .valid;
           pairs = i .underway .pairs;
           cuts = next-more (b .cuts) (p .«next_cut») x (i .underway .cuts) (room (Cut x) e .rising) (omega (arith, cut-low, i .underway .valid .cuts .long));
         })
-        (omega arith)
-        (ends (Cut x) e))
+        (omega arith))
 
-    pub cut-less : (q : Progress) → q ≡ past-cut p x → length s - q .at < length s - p .at
-    cut-less q f = rw f (omega (arith, ends (Cut x) e))
+    pub cut-less : length s - behind < length s - at
+    cut-less = less (Cut x) e (omega arith)
 
   module _ (e : c ≡ Run) where
-    pub run-ahead : Ahead (p .at) 2 (p .runs) 16
-    run-ahead = record { fits = omega (arith, ends Run e, i .short); low = room Run e }
+    pub run-low : p .runs < 16
+    run-low = room Run e
 
-    pub run-again : (q : Progress) → q ≡ past-run p → Rest s b q
+    pub run-again : (q : Progress) → q ≡ past-run p → Rest s b behind q
     run-again q f =
         let g = represents-run (so-far b p) (i .underway .valid) (room Run e) in
         rw f (turn Run e b (past-run p)
-        (ap (λ (d : Contents). on (p .at + 2) (record { group = 1; contents = d })) (sym (g .contents)))
+        (ap (λ (d : Contents). on (at + 2) (record { group = 1; contents = d })) (sym (g .contents)))
         (record { valid = g .valid; pairs = i .underway .pairs; cuts = i .underway .cuts })
-        (omega arith)
-        (ends Run e))
+        (omega arith))
 
-    pub run-less : (q : Progress) → q ≡ past-run p → length s - q .at < length s - p .at
-    run-less q f = rw f (omega (arith, ends Run e))
+    pub run-less : length s - behind < length s - at
+    run-less = less Run e (omega arith)
 
   module _ (k x : ℕ) (e : c ≡ Step k x) where
     step-room : RoomStep (so-far b p) k x
@@ -185,20 +186,16 @@ module _ (s : List ℕ) (b : Book) (p : Progress) (c : Command) (i : Rest s b p)
     pub step-fits : Fits w8 (getD (b .lens) (p .runs - 1) 0 + 1)
     step-fits = omega (arith, step-room .short)
 
-    pub step-ahead : Ahead (p .at) 4 (p .steps) 128
-    step-ahead = record { fits = omega (arith, ends (Step k x) e, i .short); low = step-room .few }
-
-    pub step-again : (q : Progress) → q ≡ past-step p → Rest s (with-step-at b (p .steps) (p .runs - 1) k x) q
+    pub step-again : (q : Progress) → q ≡ past-step p → Rest s (with-step-at b (p .steps) (p .runs - 1) k x) behind q
     step-again q f =
         let g = represents-step (so-far b p) k x (i .underway .valid) step-room in
         rw f (turn (Step k x) e (with-step-at b (p .steps) (p .runs - 1) k x) (past-step p)
-        (ap (λ (d : Contents). on (p .at + 4) (record { group = 1; contents = d })) (sym (g .contents)))
+        (ap (λ (d : Contents). on (at + 4) (record { group = 1; contents = d })) (sym (g .contents)))
         (record { valid = g .valid; pairs = i .underway .pairs; cuts = i .underway .cuts })
-        (omega arith)
-        (ends (Step k x) e))
+        (omega arith))
 
-    pub step-less : (q : Progress) → q ≡ past-step p → length s - q .at < length s - p .at
-    step-less q f = rw f (omega (arith, ends (Step k x) e))
+    pub step-less : length s - behind < length s - at
+    step-less = less (Step k x) e (omega arith)
 
   module _ (r : ℕ) (e : c ≡ Done r) where
     done-room : RoomDone (so-far b p) r
@@ -207,26 +204,22 @@ module _ (s : List ℕ) (b : Book) (p : Progress) (c : Command) (i : Rest s b p)
     pub done-low : p .done < 128
     done-low = omega (arith, done-below-steps (so-far b p) r (i .underway .valid) done-room, i .underway .valid .few-steps)
 
-    pub done-ahead : Ahead (p .at) 2 (p .done) 128
-    done-ahead = record { fits = omega (arith, ends (Done r) e, i .short); low = done-low }
-
     pub done-run : (n : ℕ) → n ≡ r → n < 16
     done-run n d = omega (arith, done-room .declared, i .underway .valid .few-runs)
 
     pub done-fits : (n : ℕ) → n ≡ r → Fits w8 (getD (b .dones) n 0 + 1)
     done-fits n d = rw d (omega (arith, done-room .left, i .underway .valid .lens .small r))
 
-    pub done-again : (n : ℕ) (q : Progress) → n ≡ r → q ≡ past-done p → Rest s (with-done-at b (p .done) n r) q
+    pub done-again : (n : ℕ) (q : Progress) → n ≡ r → q ≡ past-done p → Rest s (with-done-at b (p .done) n r) behind q
     done-again n q d f =
         let g = represents-done (so-far b p) r (i .underway .valid) done-room in
         rw (d, f) (turn (Done r) e (with-done-at b (p .done) r r) (past-done p)
-        (ap (λ (d : Contents). on (p .at + 2) (record { group = 3; contents = d })) (sym (g .contents)))
+        (ap (λ (d : Contents). on (at + 2) (record { group = 3; contents = d })) (sym (g .contents)))
         (record { valid = g .valid; pairs = i .underway .pairs; cuts = i .underway .cuts })
-        (omega arith)
-        (ends (Done r) e))
+        (omega arith))
 
-    pub done-less : (q : Progress) → q ≡ past-done p → length s - q .at < length s - p .at
-    done-less q f = rw f (omega (arith, ends (Done r) e))
+    pub done-less : length s - behind < length s - at
+    done-less = less (Done r) e (omega arith)
 
   pub ends-refused : (cause : Cause) (place : ℕ) (r : Reading) → c ≡ Refused cause place → ReadAs (refused cause place) r → ReadAs (read-commands s) r
   ends-refused cause place r e g = rw (← stops (refused cause place) (moves (Refused cause place) e) (i .fuel) (i .enough) (i .rest)) g

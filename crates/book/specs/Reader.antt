@@ -2,10 +2,8 @@
 use Prim.Native.Nat.{ℕ, _+_, _-_, _/_, _%_, _≤_, _<_}
 use mathlib.Core.Path.{_≡_}
 use mathlib.Core.List.{List, [], _∷_}
-use mir.Val.{Fits}
-use mir.Syntax.{w64}
 use lib.ListN.{length, getD}
-use Rattle.book.specs.Format.{kind-limit, run-limit, run-step-limit, step-limit, State, Move, on, over, refused, accepted, add-pair, add-run, add-step, add-cut, add-done}
+use Rattle.book.specs.Format.{kind-limit, run-limit, run-step-limit, step-limit, length-limit, State, Move, on, over, refused, accepted, add-pair, add-run, add-step, add-cut, add-done, command-at}
 use Rattle.book.specs.Book.{pairs-size, cuts-size, marked, contents-of, Valid}
 use Rattle.book.specs.declared.Book.{Book}
 use Rattle.book.specs.declared.Answer.the-variants.{Accepted}
@@ -15,28 +13,23 @@ use Rattle.book.specs.declared.Command.{Command}
 use Rattle.book.specs.declared.Command.the-variants.{Pair, Run, Step, Cut, Done, End, Refused}
 
 abbrev pub at-start : Progress
-at-start = record { at = 0; group = 0; «next_pair» = 0; «next_cut» = 0; runs = 0; steps = 0; done = 0 }
+at-start = record { group = 0; «next_pair» = 0; «next_cut» = 0; runs = 0; steps = 0; done = 0 }
 
 -- the progress behind a command
 abbrev pub past-pair : Progress → ℕ → Progress
-past-pair p i = record { at = p .at + 3; group = 0; «next_pair» = i + 1; «next_cut» = p .«next_cut»; runs = p .runs; steps = p .steps; done = p .done }
+past-pair p i = record { group = 0; «next_pair» = i + 1; «next_cut» = p .«next_cut»; runs = p .runs; steps = p .steps; done = p .done }
 
 abbrev pub past-run : Progress → Progress
-past-run p = record { at = p .at + 2; group = 1; «next_pair» = p .«next_pair»; «next_cut» = p .«next_cut»; runs = p .runs + 1; steps = p .steps; done = p .done }
+past-run p = record { group = 1; «next_pair» = p .«next_pair»; «next_cut» = p .«next_cut»; runs = p .runs + 1; steps = p .steps; done = p .done }
 
 abbrev pub past-step : Progress → Progress
-past-step p = record { at = p .at + 4; group = 1; «next_pair» = p .«next_pair»; «next_cut» = p .«next_cut»; runs = p .runs; steps = p .steps + 1; done = p .done }
+past-step p = record { group = 1; «next_pair» = p .«next_pair»; «next_cut» = p .«next_cut»; runs = p .runs; steps = p .steps + 1; done = p .done }
 
 abbrev pub past-cut : Progress → ℕ → Progress
-past-cut p i = record { at = p .at + 4; group = 2; «next_pair» = p .«next_pair»; «next_cut» = i + 1; runs = p .runs; steps = p .steps; done = p .done }
+past-cut p i = record { group = 2; «next_pair» = p .«next_pair»; «next_cut» = i + 1; runs = p .runs; steps = p .steps; done = p .done }
 
 abbrev pub past-done : Progress → Progress
-past-done p = record { at = p .at + 2; group = 3; «next_pair» = p .«next_pair»; «next_cut» = p .«next_cut»; runs = p .runs; steps = p .steps; done = p .done + 1 }
-
--- a command of that width ends within a word's range, and what it counts is below its limit
-pub record Ahead (at width count limit : ℕ) : Type 0 where
-  pub fits : Fits w64 (at + width)
-  pub low : count < limit
+past-done p = record { group = 3; «next_pair» = p .«next_pair»; «next_cut» = p .«next_cut»; runs = p .runs; steps = p .steps; done = p .done + 1 }
 
 -- the book of the tables so far, whose counts the progress has
 abbrev pub so-far : Book → Progress → Book
@@ -88,19 +81,20 @@ pub record Tables (lens dones : List ℕ) (b : Book) : Type 0 where
   pub lens-are : b .lens ≡ lens
   pub dones-are : b .dones ≡ dones
 
-pub record Inside (s : List ℕ) (p : Progress) : Type 0 where
-  pub begun : p .at < length s
+-- a command begins at the offset
+pub record Inside (s : List ℕ) (at : ℕ) (p : Progress) : Type 0 where
+  pub begun : at < length s
   pub few : p .runs ≤ run-limit
 
 -- the move that a command stands for
-abbrev pub move-of : Command → Book → Progress → Move
-move-of (Pair i) b p = on (p .at + 3) (record { group = 0; contents = add-pair (contents-of (so-far b p)) (i / 16) (i % 16) })
-move-of Run b p = on (p .at + 2) (record { group = 1; contents = add-run (contents-of (so-far b p)) })
-move-of (Step k x) b p = on (p .at + 4) (record { group = 1; contents = add-step (contents-of (so-far b p)) k x })
-move-of (Cut i) b p = on (p .at + 4) (record { group = 2; contents = add-cut (contents-of (so-far b p)) (i / 512) (i % 512 / 16) (i % 16) })
-move-of (Done r) b p = on (p .at + 2) (record { group = 3; contents = add-done (contents-of (so-far b p)) r })
-move-of End b p = over (accepted (contents-of (so-far b p)))
-move-of (Refused c i) b p = over (refused c i)
+abbrev pub move-of : Command → Book → ℕ → Progress → Move
+move-of (Pair i) b at p = on (at + 3) (record { group = 0; contents = add-pair (contents-of (so-far b p)) (i / 16) (i % 16) })
+move-of Run b at p = on (at + 2) (record { group = 1; contents = add-run (contents-of (so-far b p)) })
+move-of (Step k x) b at p = on (at + 4) (record { group = 1; contents = add-step (contents-of (so-far b p)) k x })
+move-of (Cut i) b at p = on (at + 4) (record { group = 2; contents = add-cut (contents-of (so-far b p)) (i / 512) (i % 512 / 16) (i % 16) })
+move-of (Done r) b at p = on (at + 2) (record { group = 3; contents = add-done (contents-of (so-far b p)) r })
+move-of End b at p = over (accepted (contents-of (so-far b p)))
+move-of (Refused c i) b at p = over (refused c i)
 
 -- a table of flags has room for a flag above the ones before
 pub record RoomFlag (limit next i : ℕ) : Type 0 where
@@ -136,11 +130,22 @@ width Run = 2
 width (Step k x) = 4
 width (Cut i) = 4
 width (Done r) = 2
-width End = 0
+width End = 1
 width (Refused c i) = 0
 
 -- the command's move is the format's for all tables that are as the function was lent, there is room for it, and its bytes are there
-pub record Decides (tables : Book → Type 0) (format : List ℕ → ℕ → State → Move) (s : List ℕ) (p : Progress) (c : Command) : Type 0 where
-  pub move : (b : Book) → Underway b p → tables b → move-of c b p ≡ format s (p .at) (state-of b p)
+pub record Decides (tables : Book → Type 0) (format : List ℕ → ℕ → State → Move) (s : List ℕ) (at : ℕ) (p : Progress) (c : Command) : Type 0 where
+  pub move : (b : Book) → Underway b p → tables b → move-of c b at p ≡ format s at (state-of b p)
   pub room : (b : Book) → Underway b p → tables b → Room c b p
-  pub ends : p .at ≤ length s → p .at + width c ≤ length s
+  pub ends : at ≤ length s → at + width c ≤ length s
+
+-- the reader stands within the bytes, which are no more than a book may have
+pub record MayTake (s : List ℕ) (at : ℕ) (p : Progress) : Type 0 where
+  pub within : at ≤ length s
+  pub short : length s ≤ length-limit
+  pub few : p .runs ≤ run-limit
+
+-- the command at the offset, and the offset behind it
+pub record TakenAs (lens dones s : List ℕ) (at : ℕ) (p : Progress) (c : Command) (behind : ℕ) : Type 0 where
+  pub decides : Decides (Tables lens dones) command-at s at p c
+  pub moved : behind ≡ at + width c

@@ -5,7 +5,7 @@ ghost use lib.ListN.{length};
 ghost use Rattle.book.specs.Numbers.{number};
 ghost use Rattle.book.specs.Format.{kind-limit, run-limit, run-step-limit, step-limit, length-limit, refused, pair-at, run-at, step-at, cut-at, done-at, end-at, command-at, read-commands, read};
 ghost use Rattle.book.specs.Book.{pairs-size, cuts-size, empty-book, ReadAs};
-ghost use Rattle.book.specs.Reader.{at-start, past-pair, past-run, past-step, past-cut, past-done, accepted-as, Ahead, Inside, Any, Lens, Tables, Decides};
+ghost use Rattle.book.specs.Reader.{at-start, past-pair, past-run, past-step, past-cut, past-done, accepted-as, Inside, Any, Lens, Tables, width, Decides, MayTake, TakenAs};
 
 // Why something is turned away, one for each row of document 01's table, and three for the limits of runs and steps.
 pub enum Cause {
@@ -150,10 +150,9 @@ fn limits()
     ensures { λ r. do ⌜ (← ⟦Book::LENGTH⟧ .entry) ≡ length-limit ⌝ }
 {}
 
-// How far the reader has come: the offset of the next command, the group of the last one, the least index that the next pair and the next
-// cut may have in their tables, and the counts of the book so far.
+// What the commands so far leave for the next one: the group of the last one, the least index that the next pair and the next cut may have
+// in their tables, and the counts of the book so far.
 struct Progress {
-    at: usize,
     group: u8,
     next_pair: usize,
     next_cut: usize,
@@ -168,7 +167,6 @@ impl Progress {
         ensures { λ r. ⌜ r ≡ at-start ⌝ }
     {
         Self {
-            at: 0,
             group: 0,
             next_pair: 0,
             next_cut: 0,
@@ -180,50 +178,45 @@ impl Progress {
 
     // Behind a command, one for each; the index is that of the pair or the cut that was read.
     fn past_pair(mut self, index: usize) -> Self
-        requires { ⌜ Ahead (self .at) 3 index pairs-size ⌝ }
+        requires { ⌜ index < pairs-size ⌝ }
         ensures { λ r. ⌜ r ≡ past-pair self index ⌝ }
     {
-        self.at += 3;
         self.group = 0;
         self.next_pair = index + 1;
         self
     }
 
     fn past_run(mut self) -> Self
-        requires { ⌜ Ahead (self .at) 2 (self .runs) run-limit ⌝ }
+        requires { ⌜ self .runs < run-limit ⌝ }
         ensures { λ r. ⌜ r ≡ past-run self ⌝ }
     {
-        self.at += 2;
         self.group = 1;
         self.runs += 1;
         self
     }
 
     fn past_step(mut self) -> Self
-        requires { ⌜ Ahead (self .at) 4 (self .steps) step-limit ⌝ }
+        requires { ⌜ self .steps < step-limit ⌝ }
         ensures { λ r. ⌜ r ≡ past-step self ⌝ }
     {
-        self.at += 4;
         self.group = 1;
         self.steps += 1;
         self
     }
 
     fn past_cut(mut self, index: usize) -> Self
-        requires { ⌜ Ahead (self .at) 4 index cuts-size ⌝ }
+        requires { ⌜ index < cuts-size ⌝ }
         ensures { λ r. ⌜ r ≡ past-cut self index ⌝ }
     {
-        self.at += 4;
         self.group = 2;
         self.next_cut = index + 1;
         self
     }
 
     fn past_done(mut self) -> Self
-        requires { ⌜ Ahead (self .at) 2 (self .done) step-limit ⌝ }
+        requires { ⌜ self .done < step-limit ⌝ }
         ensures { λ r. ⌜ r ≡ past-done self ⌝ }
     {
-        self.at += 2;
         self.group = 3;
         self.done += 1;
         self
@@ -276,11 +269,10 @@ fn cut_index(r: usize, j: usize, o: usize) -> usize
 }
 
 // 43, kinds a, b.
-fn pair_at(s: &[u8], p: Progress) -> Command
-    requires { ⌜ Inside (now s) p ⌝ }
-    ensures { λ r. ⌜ Decides Any pair-at (now (s .entry)) p r ⌝ }
+fn pair_at(s: &[u8], at: usize, p: Progress) -> Command
+    requires { ⌜ Inside (now s) at p ⌝ }
+    ensures { λ r. ⌜ Decides Any pair-at (now (s .entry)) at p r ⌝ }
 {
-    let at = p.at;
     if s.len() - at < 3 {
         return Command::Refused(Cause::EndsEarly, at);
     }
@@ -303,11 +295,10 @@ fn pair_at(s: &[u8], p: Progress) -> Command
 }
 
 // 52, run r.
-fn run_at(s: &[u8], p: Progress) -> Command
-    requires { ⌜ Inside (now s) p ⌝ }
-    ensures { λ r. ⌜ Decides Any run-at (now (s .entry)) p r ⌝ }
+fn run_at(s: &[u8], at: usize, p: Progress) -> Command
+    requires { ⌜ Inside (now s) at p ⌝ }
+    ensures { λ r. ⌜ Decides Any run-at (now (s .entry)) at p r ⌝ }
 {
-    let at = p.at;
     if s.len() - at < 2 {
         return Command::Refused(Cause::EndsEarly, at);
     }
@@ -325,11 +316,10 @@ fn run_at(s: &[u8], p: Progress) -> Command
 }
 
 // 53, kind, position.
-fn step_at(s: &[u8], p: Progress, lens: &[u8; Book::RUNS]) -> Command
-    requires { ⌜ Inside (now s) p ⌝ }
-    ensures { λ r. ⌜ Decides (Lens (now (lens .entry))) step-at (now (s .entry)) p r ⌝ }
+fn step_at(s: &[u8], at: usize, p: Progress, lens: &[u8; Book::RUNS]) -> Command
+    requires { ⌜ Inside (now s) at p ⌝ }
+    ensures { λ r. ⌜ Decides (Lens (now (lens .entry))) step-at (now (s .entry)) at p r ⌝ }
 {
-    let at = p.at;
     if s.len() - at < 4 {
         return Command::Refused(Cause::EndsEarly, at);
     }
@@ -354,11 +344,10 @@ fn step_at(s: &[u8], p: Progress, lens: &[u8; Book::RUNS]) -> Command
 }
 
 // 42, run r, number j, run o.
-fn cut_at(s: &[u8], p: Progress, lens: &[u8; Book::RUNS]) -> Command
-    requires { ⌜ Inside (now s) p ⌝ }
-    ensures { λ r. ⌜ Decides (Lens (now (lens .entry))) cut-at (now (s .entry)) p r ⌝ }
+fn cut_at(s: &[u8], at: usize, p: Progress, lens: &[u8; Book::RUNS]) -> Command
+    requires { ⌜ Inside (now s) at p ⌝ }
+    ensures { λ r. ⌜ Decides (Lens (now (lens .entry))) cut-at (now (s .entry)) at p r ⌝ }
 {
-    let at = p.at;
     if s.len() - at < 4 {
         return Command::Refused(Cause::EndsEarly, at);
     }
@@ -393,14 +382,14 @@ fn cut_at(s: &[u8], p: Progress, lens: &[u8; Book::RUNS]) -> Command
 // 48, run r.
 fn done_at<'a>(
     s: &[u8],
+    at: usize,
     p: Progress,
     lens: &'a [u8; Book::RUNS],
     dones: &'a [u8; Book::RUNS],
 ) -> Command
-    requires { ⌜ Inside (now s) p ⌝ }
-    ensures { λ r. ⌜ Decides (Tables (now (lens .entry)) (now (dones .entry))) done-at (now (s .entry)) p r ⌝ }
+    requires { ⌜ Inside (now s) at p ⌝ }
+    ensures { λ r. ⌜ Decides (Tables (now (lens .entry)) (now (dones .entry))) done-at (now (s .entry)) at p r ⌝ }
 {
-    let at = p.at;
     if s.len() - at < 2 {
         return Command::Refused(Cause::EndsEarly, at);
     }
@@ -416,51 +405,147 @@ fn done_at<'a>(
 }
 
 // 45.
-fn end_at(s: &[u8], p: Progress) -> Command
-    requires { ⌜ Inside (now s) p ⌝ }
-    ensures { λ r. ⌜ Decides Any end-at (now (s .entry)) p r ⌝ }
+fn end_at(s: &[u8], at: usize, p: Progress) -> Command
+    requires { ⌜ Inside (now s) at p ⌝ }
+    ensures { λ r. ⌜ Decides Any end-at (now (s .entry)) at p r ⌝ }
 {
-    let next = p.at + 1;
+    let next = at + 1;
     if next < s.len() {
         return Command::Refused(Cause::BytesAfterEnd, next);
     }
     Command::End
 }
 
-// The command at the next place.
+// The command at an offset.
 fn command_at<'a>(
     s: &[u8],
+    at: usize,
     p: Progress,
     lens: &'a [u8; Book::RUNS],
     dones: &'a [u8; Book::RUNS],
 ) -> Command
     requires { ⌜ p .runs ≤ run-limit ⌝ }
-    ensures { λ r. ⌜ Decides (Tables (now (lens .entry)) (now (dones .entry))) command-at (now (s .entry)) p r ⌝ }
+    ensures { λ r. ⌜ Decides (Tables (now (lens .entry)) (now (dones .entry))) command-at (now (s .entry)) at p r ⌝ }
 {
-    let at = p.at;
     if at >= s.len() {
         return Command::Refused(Cause::EndsEarly, at);
     }
     let c = s[at];
     if c == 0x43 {
-        return pair_at(s, p);
+        return pair_at(s, at, p);
     }
     if c == 0x52 {
-        return run_at(s, p);
+        return run_at(s, at, p);
     }
     if c == 0x53 {
-        return step_at(s, p, lens);
+        return step_at(s, at, p, lens);
     }
     if c == 0x42 {
-        return cut_at(s, p, lens);
+        return cut_at(s, at, p, lens);
     }
     if c == 0x48 {
-        return done_at(s, p, lens, dones);
+        return done_at(s, at, p, lens, dones);
     }
     if c == 0x45 {
-        return end_at(s, p);
+        return end_at(s, at, p);
     }
     Command::Refused(Cause::NoCommand, at)
+}
+
+// The number of a command's bytes; a refusal takes none.
+fn width(command: Command) -> usize
+    ensures { λ r. ⌜ r ≡ width command ⌝ }
+{
+    match command {
+        Command::Pair(_) => 3,
+        Command::Run => 2,
+        Command::Step(_, _) => 4,
+        Command::Cut(_) => 4,
+        Command::Done(_) => 2,
+        Command::End => 1,
+        Command::Refused(_, _) => 0,
+    }
+}
+
+// A command, and the offset behind it.
+struct Taken {
+    command: Command,
+    at: usize,
+}
+
+// Takes the command at an offset.
+fn taken_at<'a, 't>(
+    s: &'a [u8],
+    at: usize,
+    p: Progress,
+    lens: &'t [u8; Book::RUNS],
+    dones: &'t [u8; Book::RUNS],
+) -> Taken
+    requires { ⌜ MayTake (now s) at p ⌝ }
+    ensures { λ r. ⌜ TakenAs (now (lens .entry)) (now (dones .entry)) (now (s .entry)) at p (r .command) (r .at) ⌝ }
+{
+    let command = command_at(s, at, p, lens, dones);
+    let behind = at + width(command);
+    Taken {
+        command,
+        at: behind,
+    }
+}
+
+// The reader: the book's bytes, and how far it has come.
+struct Reader<'a> {
+    src: &'a [u8],
+    at: usize,
+}
+
+// A reader of these bytes that stands at an offset.
+fn reader_at<'a>(src: &'a [u8], at: usize) -> Reader<'a>
+    ensures { λ r. ⌜ (r .src ≡ src .entry) × (r .at ≡ at) ⌝ }
+{
+    Reader { src, at }
+}
+
+// Takes one command and moves on behind it.
+fn take<'s, 'a, 't>(
+    r: &'s mut Reader<'a>,
+    p: Progress,
+    lens: &'t [u8; Book::RUNS],
+    dones: &'t [u8; Book::RUNS],
+) -> Command
+    requires { ⌜ MayTake (now (now r .src)) (now r .at) p ⌝ }
+    ensures { λ c. ⌜ (now (r .exit) .src ≡ now (r .entry) .src)
+        × TakenAs (now (lens .entry)) (now (dones .entry)) (now (now (r .entry) .src)) (now (r .entry) .at) p c (now (r .exit) .at) ⌝ }
+{
+    let taken = taken_at(r.src, r.at, p, lens, dones);
+    r.at = taken.at;
+    taken.command
+}
+
+// Where the reader stands.
+fn place_of<'a>(r: Reader<'a>) -> usize
+    ensures { λ n. ⌜ n ≡ r .entry .at ⌝ }
+{
+    r.at
+}
+
+// The command at an offset, by the reader: for callers that hold the bytes and the offset.
+fn next_command<'a, 't>(
+    s: &'a [u8],
+    at: usize,
+    p: Progress,
+    lens: &'t [u8; Book::RUNS],
+    dones: &'t [u8; Book::RUNS],
+) -> Taken
+    requires { ⌜ MayTake (now s) at p ⌝ }
+    ensures { λ r. ⌜ TakenAs (now (lens .entry)) (now (dones .entry)) (now (s .entry)) at p (r .command) (r .at) ⌝ }
+{
+    let mut r = reader_at(s, at);
+    let command = take(&mut r, p, lens, dones);
+    let behind = place_of(r);
+    Taken {
+        command,
+        at: behind,
+    }
 }
 
 // What reading a book answers: refused, with the cause and the place; or accepted.
@@ -475,15 +560,18 @@ pub struct Reading {
     pub book: Book,
 }
 
-// Reads the commands in turn: `command_at` says what each adds, and that is stored where it belongs.
+// Reads the commands in turn: `next_command` says what each adds, and that is stored where it belongs.
 fn read_commands(s: &[u8]) -> Reading
     requires { ⌜ length (now s) ≤ length-limit ⌝ }
     ensures { λ r. ⌜ ReadAs (read-commands (now (s .entry))) r ⌝ }
 {
     let mut book = Book::empty();
     let mut p = Progress::start();
+    let mut at: usize = 0;
     loop {
-        let command = command_at(s, p, &book.lens, &book.dones);
+        let taken = next_command(s, at, p, &book.lens, &book.dones);
+        let command = taken.command;
+        at = taken.at;
         match command {
             Command::Pair(index) => {
                 book.pairs[index] = 1;
@@ -492,11 +580,9 @@ fn read_commands(s: &[u8]) -> Reading
             Command::Run => p = p.past_run(),
             Command::Step(kind, position) => {
                 let n = p.steps;
-                let last = p.runs - 1;
-                let len = book.lens[last];
                 book.kinds[n] = kind;
                 book.positions[n] = position;
-                book.lens[last] = len + 1;
+                book.lens[p.runs - 1] += 1;
                 p = p.past_step();
             }
             Command::Cut(index) => {
@@ -506,9 +592,8 @@ fn read_commands(s: &[u8]) -> Reading
             Command::Done(run) => {
                 let n = p.done;
                 let r = wide(run);
-                let done = book.dones[r];
                 book.history[n] = run;
-                book.dones[r] = done + 1;
+                book.dones[r] += 1;
                 p = p.past_done();
             }
             Command::End => return accept(book, p),

@@ -12,10 +12,11 @@ use Rattle.theory.specs.Relative.{Depends, InUnit, Interleaved, RelativelySeria
 use Rattle.theory.specs.Graph.{FirstOf, LastOf}
 use Rattle.theory.proofs.Steps.{unit-refl, unit-sym, unit-trans}
 use Rattle.bits.specs.Table.{bit-at}
+use Rattle.graph.proofs.Answered.{answer-yes, answer-no}
 use Rattle.graph.specs.Marks.{Marks}
 use Rattle.graph.specs.Units.{Firsts, Lasts}
+use Rattle.book.specs.Format.{run-limit}
 use Rattle.classes.specs.Inner.{History, InterleavedIn, LinkedIn, ViolatesIn, NoneBelow, NonePair, AtomicBy, RelativelySerialBy}
-use Rattle.classes.proofs.Answered.{answer-yes, answer-no}
 use Rattle.classes.proofs.UnitEnds.{interleaved-first, first-before, interleaved-other, dep-first, dep-last}
 
 -- ---- the history's places and the tables
@@ -28,10 +29,10 @@ module _ (history : List ℕ) (n : ℕ) (w : History history n) where
   run-at p i = getD-take n history p 0 i
 
   module _ (unit : ℕ → ℕ → ℕ → ℕ) (firsts : List ℕ) (f : Firsts unit (take n history) firsts) where
-    first-at : (b c : ℕ) → b < n → c < n → FirstOf unit (take n history) (run (take n history) b) c (getD firsts (c * 16 + getD history b 0) 0)
+    first-at : (b c : ℕ) → b < n → c < n → FirstOf unit (take n history) (run (take n history) b) c (getD firsts (c * run-limit + getD history b 0) 0)
     first-at b c i j = rw (run-at b i) (f .at c (getD history b 0) zero-le (omega (arith, size)) (w .runs .small b))
 
-    pub interleaved-in : (b c : ℕ) → b < c → c < n → InterleavedIn history firsts b c → Interleaved unit (take n history) (getD firsts (c * 16 + getD history b 0) 0) b c
+    pub interleaved-in : (b c : ℕ) → b < c → c < n → InterleavedIn history firsts b c → Interleaved unit (take n history) (getD firsts (c * run-limit + getD history b 0) 0) b c
     interleaved-in b c k j t =
         interleaved-first unit (first-at b c (omega arith) j) k (omega (arith, size)) (λ e. t .other (sym (run-at c j) ∙ e ∙ run-at b (omega arith))) (t .after)
 
@@ -64,7 +65,7 @@ module _ (history : List ℕ) (n : ℕ) (w : History history n) where
   module _ (firsts lasts dep : List ℕ) where
     module _ (conflict : ℕ → ℕ → ℕ → ℕ → Bool) (unit : ℕ → ℕ → ℕ → ℕ) (m : Marks (Depends conflict (take n history)) dep)
         (f : Firsts unit (take n history) firsts) (g : Lasts unit (take n history) lasts) where
-      last-at : (b c : ℕ) → b < n → c < n → LastOf unit (take n history) (run (take n history) b) c (getD lasts (c * 16 + getD history b 0) 0)
+      last-at : (b c : ℕ) → b < n → c < n → LastOf unit (take n history) (run (take n history) b) c (getD lasts (c * run-limit + getD history b 0) 0)
       last-at b c i j = rw (run-at b i) (g .at c (getD history b 0) zero-le (omega (arith, size)) (w .runs .small b))
 
       -- a step interleaved with a unit and linked to it, both read off the tables, is one
@@ -75,10 +76,10 @@ module _ (history : List ℕ) (n : ℕ) (w : History history n) where
           i = omega arith
 
           x : ℕ
-          x = getD firsts (c * 16 + getD history b 0) 0
+          x = getD firsts (c * run-limit + getD history b 0) 0
 
           y : ℕ
-          y = getD lasts (c * 16 + getD history b 0) 0
+          y = getD lasts (c * run-limit + getD history b 0) 0
 
           t : Interleaved unit (take n history) x b c
           t = interleaved-in unit firsts f b c k j (v .interleaved)
@@ -106,10 +107,10 @@ module _ (history : List ℕ) (n : ℕ) (w : History history n) where
           ib : b < n
           ib = omega (arith, v .before, j)
 
-          fst : FirstOf unit (take n history) (run (take n history) b) c (getD firsts (c * 16 + getD history b 0) 0)
+          fst : FirstOf unit (take n history) (run (take n history) b) c (getD firsts (c * run-limit + getD history b 0) 0)
           fst = first-at unit firsts f b c ib j
 
-          lst : LastOf unit (take n history) (run (take n history) b) c (getD lasts (c * 16 + getD history b 0) 0)
+          lst : LastOf unit (take n history) (run (take n history) b) c (getD lasts (c * run-limit + getD history b 0) 0)
           lst = last-at b c ib j
 
           cd : InUnit unit (take n history) (run (take n history) b) c d

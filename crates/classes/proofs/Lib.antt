@@ -1,5 +1,5 @@
 -- The root of the laws of `classes`.
-pub mod Answered
+pub mod Searched
 pub mod UnitEnds
 pub mod PairTests
 pub mod ClassLaws

@@ -15,8 +15,9 @@ use borrow.Author.Tests.{eqb-true, eq-eqb}
 use Rattle.theory.specs.History.{run, Serial}
 use Rattle.theory.proofs.Finite.{below-suc}
 use Rattle.bits.specs.Table.{bit-at, Marked}
-use Rattle.classes.specs.Inner.{Answers, History, RunAt}
-use Rattle.classes.proofs.Answered.{answer-yes, answer-no, false-true}
+use Rattle.graph.specs.Answers.{Answers}
+use Rattle.graph.proofs.Answered.{answer-yes, answer-no, false-true}
+use Rattle.classes.specs.Inner.{History, RunAt}
 use Rattle.classes.proofs.Collected.{Collected, collected-none, collected-again, collected-more}
 use Rattle.classes.proofs.ClassLaws.{size}
 

@@ -15,8 +15,9 @@ use Rattle.book.proofs.Empty.{represents-empty}
 use Rattle.judge.specs.Judged.{JudgedAs}
 use Rattle.judge.specs.declared.Verdict.{Verdict}
 use Rattle.judge.specs.declared.Verdict.the-variants.{Refused, Passed, Tangled}
-use Rattle.classes.specs.Inner.{Answers, without-cuts}
-use Rattle.classes.proofs.Answered.{answer-yes, answer-no}
+use Rattle.graph.specs.Answers.{Answers}
+use Rattle.graph.proofs.Answered.{answer-yes, answer-no}
+use Rattle.classes.specs.Inner.{without-cuts}
 
 pub valid-uncut : (b u : Book) → Valid b → u ≡ without-cuts b → Valid u
 unfolding empty-book

@@ -9,16 +9,14 @@ use Rattle.theory.specs.Relative.{Depends, RelativelyAtomic, RelativelySerial}
 use Rattle.bits.specs.Table.{bit-at}
 use Rattle.book.specs.Format.{run-limit, step-limit}
 use Rattle.book.specs.Book.{cuts-size}
+use Rattle.book.specs.declared.Answer.{Answer}
+use Rattle.book.specs.declared.Answer.the-variants.{Refused as ReadRefused, Accepted}
 use Rattle.book.specs.declared.Book.{Book}
+use Rattle.graph.specs.Answers.{Answers}
 use Rattle.graph.specs.Marks.{Marks}
 use Rattle.graph.specs.Units.{Firsts, Lasts}
 use Rattle.classes.specs.declared.Reply.{Reply}
-use Rattle.classes.specs.declared.Reply.the-variants.{Yes, No}
-
--- the answer says whether P
-pub record Answers (P : Type 0) (answer : Bool) : Type 0 where
-  pub sound : answer ≡ true → P
-  pub complete : P → answer ≡ true
+use Rattle.classes.specs.declared.Reply.the-variants.{Refused, Yes, No}
 
 -- each is a run number below the limit
 pub record Runs (history : List ℕ) : Type 0 where
@@ -37,7 +35,7 @@ pub record RunAt (history : List ℕ) (p r : ℕ) : Type 0 where
 
 -- in the row of p stand places below the limit
 pub record RowOfPlaces (t : List ℕ) (p : ℕ) : Type 0 where
-  pub small : (o : ℕ) → o < run-limit → getD t (p * 16 + o) 0 < step-limit
+  pub small : (o : ℕ) → o < run-limit → getD t (p * run-limit + o) 0 < step-limit
 
 -- in the rows of the places below n stand places below the limit
 pub record RowsOfPlaces (t : List ℕ) (n : ℕ) : Type 0 where
@@ -46,12 +44,12 @@ pub record RowsOfPlaces (t : List ℕ) (n : ℕ) : Type 0 where
 -- b, of another run than c, comes after the first step of c's unit, as seen by b's run: theory's `Interleaved`, read off the table
 pub record InterleavedIn (history firsts : List ℕ) (b c : ℕ) : Type 0 where
   pub other : getD history c 0 ≢ getD history b 0
-  pub after : getD firsts (c * 16 + getD history b 0) 0 < b
+  pub after : getD firsts (c * run-limit + getD history b 0) 0 < b
 
 -- b depends on the first step of c's unit, as seen by b's run, or the last one on b
 abbrev pub LinkedIn : List ℕ → List ℕ → List ℕ → List ℕ → ℕ → ℕ → Type 0
 LinkedIn history firsts lasts dep b c =
-    (bit-at dep b (getD firsts (c * 16 + getD history b 0) 0) ≡ 1) ⊎ (bit-at dep (getD lasts (c * 16 + getD history b 0) 0) b ≡ 1)
+    (bit-at dep b (getD firsts (c * run-limit + getD history b 0) 0) ≡ 1) ⊎ (bit-at dep (getD lasts (c * run-limit + getD history b 0) 0) b ≡ 1)
 
 -- b is interleaved with c's unit and linked to it
 pub record ViolatesIn (history firsts lasts dep : List ℕ) (b c : ℕ) : Type 0 where
@@ -81,10 +79,11 @@ without-cuts b = record {
   done = b .done;
 }
 
--- the reply to an accepted book
-abbrev pub yes-or-no : Bool → Reply
-yes-or-no true = Yes
-yes-or-no false = No
+-- the reply to a book that was read, by the test's answer
+abbrev pub reply-to : Answer → Bool → Reply
+reply-to (ReadRefused cause place) t = Refused cause place
+reply-to Accepted true = Yes
+reply-to Accepted false = No
 
 -- the answer for every unit whose first places these are
 pub record AtomicBy (history : List ℕ) (n : ℕ) (firsts : List ℕ) (answer : Bool) : Type 0 where

@@ -11,10 +11,12 @@ ghost use mathlib.Core.Path.{_≡_};
 ghost use lib.ListN.{getD, take};
 ghost use Rattle.theory.specs.History.{Serial};
 ghost use Rattle.theory.specs.Relative.{ConflictSerializable, RelativelyAtomic, RelativelySerial};
+ghost use Rattle.book.specs.Format.{run-limit, step-limit};
 ghost use Rattle.book.specs.Book.{Valid, contents-of};
 ghost use Rattle.book.specs.Meaning.{conflict-of, unit-of};
+ghost use Rattle.graph.specs.Answers.{Answers};
 ghost use Rattle.classes.specs.Reply.{Replies};
-ghost use Rattle.classes.specs.Inner.{Answers, Runs, History, RunAt, RowOfPlaces, RowsOfPlaces, InterleavedIn, ViolatesIn, NoneBelow, AtomicBy, RelativelySerialBy, without-cuts, yes-or-no};
+ghost use Rattle.classes.specs.Inner.{Runs, History, RunAt, RowOfPlaces, RowsOfPlaces, InterleavedIn, ViolatesIn, NoneBelow, AtomicBy, RelativelySerialBy, without-cuts, reply-to};
 
 // What a call that reads a book and answers yes or no replies.
 pub enum Reply {
@@ -30,8 +32,8 @@ pub fn wide(x: u8) -> usize
 }
 
 // The run of a place.
-fn run_of(history: &[u8; 128], p: usize) -> usize
-    requires { ⌜ (p < 128) × Runs (now history) ⌝ }
+fn run_of(history: &[u8; Book::STEPS], p: usize) -> usize
+    requires { ⌜ (p < step-limit) × Runs (now history) ⌝ }
     ensures { λ r. ⌜ RunAt (now (history .entry)) p r ⌝ }
 {
     wide(history[p])
@@ -39,14 +41,14 @@ fn run_of(history: &[u8; 128], p: usize) -> usize
 
 // The place that a table of units has for p and run o.
 fn place_in(t: &Units, p: usize, o: usize) -> usize
-    requires { ⌜ (p < 128) × (o < 16) ⌝ }
-    ensures { λ r. ⌜ (r ≡ getD (now (t .entry)) (p * 16 + o) 0) × (r < 256) ⌝ }
+    requires { ⌜ (p < step-limit) × (o < run-limit) ⌝ }
+    ensures { λ r. ⌜ (r ≡ getD (now (t .entry)) (p * run-limit + o) 0) × (r < 256) ⌝ }
 {
-    wide(t[p * 16 + o])
+    wide(t[p * Book::RUNS + o])
 }
 
 // Whether each run's steps stand together: no step of a run that came before follows another run's.
-fn stands_together(history: &[u8; 128], n: usize) -> bool
+fn stands_together(history: &[u8; Book::STEPS], n: usize) -> bool
     requires { ⌜ History (now history) n ⌝ }
     ensures { λ r. ⌜ Answers (Serial (take n (now (history .entry)))) r ⌝ }
 {
@@ -65,8 +67,8 @@ fn stands_together(history: &[u8; 128], n: usize) -> bool
 }
 
 // Whether b is interleaved with c's unit.
-fn interleaved(history: &[u8; 128], firsts: &Units, b: usize, c: usize) -> bool
-    requires { ⌜ (b < 128) × (c < 128) × Runs (now history) ⌝ }
+fn interleaved(history: &[u8; Book::STEPS], firsts: &Units, b: usize, c: usize) -> bool
+    requires { ⌜ (b < step-limit) × (c < step-limit) × Runs (now history) ⌝ }
     ensures { λ r. ⌜ Answers (InterleavedIn (now (history .entry)) (now (firsts .entry)) b c) r ⌝ }
 {
     let o = run_of(history, b);
@@ -77,8 +79,8 @@ fn interleaved(history: &[u8; 128], firsts: &Units, b: usize, c: usize) -> bool
 }
 
 // Whether no place before c is interleaved with c's unit.
-fn none_interleaved(history: &[u8; 128], firsts: &Units, c: usize) -> bool
-    requires { ⌜ (c < 128) × Runs (now history) ⌝ }
+fn none_interleaved(history: &[u8; Book::STEPS], firsts: &Units, c: usize) -> bool
+    requires { ⌜ (c < step-limit) × Runs (now history) ⌝ }
     ensures { λ r. ⌜ Answers (NoneBelow (λ b. InterleavedIn (now (history .entry)) (now (firsts .entry)) b c) c) r ⌝ }
 {
     for b in 0..c {
@@ -90,7 +92,7 @@ fn none_interleaved(history: &[u8; 128], firsts: &Units, c: usize) -> bool
 }
 
 // Whether no step is interleaved with a unit of another run.
-fn atomic_by(history: &[u8; 128], n: usize, firsts: &Units) -> bool
+fn atomic_by(history: &[u8; Book::STEPS], n: usize, firsts: &Units) -> bool
     requires { ⌜ History (now history) n ⌝ }
     ensures { λ r. ⌜ AtomicBy (now (history .entry)) n (now (firsts .entry)) r ⌝ }
 {
@@ -104,14 +106,14 @@ fn atomic_by(history: &[u8; 128], n: usize, firsts: &Units) -> bool
 
 // Whether b, interleaved with c's unit, depends on a step of it, or a step of it on b.
 fn violates(
-    history: &[u8; 128],
+    history: &[u8; Book::STEPS],
     firsts: &Units,
     lasts: &Units,
     dep: &Table,
     b: usize,
     c: usize,
 ) -> bool
-    requires { ⌜ (b < 128) × (c < 128) × Runs (now history) × RowOfPlaces (now lasts) c ⌝ }
+    requires { ⌜ (b < step-limit) × (c < step-limit) × Runs (now history) × RowOfPlaces (now lasts) c ⌝ }
     ensures { λ r. ⌜ Answers (ViolatesIn (now (history .entry)) (now (firsts .entry)) (now (lasts .entry)) (now (dep .entry)) b c) r ⌝ }
 {
     if !interleaved(history, firsts, b, c) {
@@ -125,8 +127,14 @@ fn violates(
 }
 
 // Whether no place before c violates c's unit.
-fn none_violates(history: &[u8; 128], firsts: &Units, lasts: &Units, dep: &Table, c: usize) -> bool
-    requires { ⌜ (c < 128) × Runs (now history) × RowOfPlaces (now lasts) c ⌝ }
+fn none_violates(
+    history: &[u8; Book::STEPS],
+    firsts: &Units,
+    lasts: &Units,
+    dep: &Table,
+    c: usize,
+) -> bool
+    requires { ⌜ (c < step-limit) × Runs (now history) × RowOfPlaces (now lasts) c ⌝ }
     ensures { λ r. ⌜ Answers (NoneBelow (λ b. ViolatesIn (now (history .entry)) (now (firsts .entry)) (now (lasts .entry)) (now (dep .entry)) b c) c) r ⌝ }
 {
     for b in 0..c {
@@ -139,7 +147,7 @@ fn none_violates(history: &[u8; 128], firsts: &Units, lasts: &Units, dep: &Table
 
 // Whether no step depends on a unit of another run that it is interleaved with, nor the unit on it.
 fn relatively_serial_by(
-    history: &[u8; 128],
+    history: &[u8; Book::STEPS],
     n: usize,
     firsts: &Units,
     lasts: &Units,
@@ -170,8 +178,8 @@ fn is_relatively_atomic(b: Book) -> bool
     requires { ⌜ Valid b ⌝ }
     ensures { λ r. ⌜ Answers (RelativelyAtomic (unit-of (contents-of b)) (contents-of b .history)) r ⌝ }
 {
-    let mut firsts: Units = [0; 2048];
-    let mut lasts: Units = [0; 2048];
+    let mut firsts: Units = [0; graph::UNITS_SIZE];
+    let mut lasts: Units = [0; graph::UNITS_SIZE];
     graph::units(b, &mut firsts, &mut lasts);
     let history = b.history;
     atomic_by(&history, b.done, &firsts)
@@ -184,8 +192,8 @@ pub fn is_relatively_serial(b: Book) -> bool
 {
     let mut dep: Table = [0; bits::TABLE_WORDS];
     graph::dependences(b, &mut dep);
-    let mut firsts: Units = [0; 2048];
-    let mut lasts: Units = [0; 2048];
+    let mut firsts: Units = [0; graph::UNITS_SIZE];
+    let mut lasts: Units = [0; graph::UNITS_SIZE];
     graph::units(b, &mut firsts, &mut lasts);
     let history = b.history;
     relatively_serial_by(&history, b.done, &firsts, &lasts, &dep)
@@ -196,7 +204,7 @@ fn without_cuts(b: Book) -> Book
     ensures { λ r. ⌜ r ≡ without-cuts b ⌝ }
 {
     let mut uncut = b;
-    uncut.cuts = [0; 8192];
+    uncut.cuts = [0; Book::CUTS_SIZE];
     uncut
 }
 
@@ -205,8 +213,8 @@ fn is_conflict_serializable(b: Book) -> bool
     requires { ⌜ Valid b ⌝ }
     ensures { λ r. ⌜ Answers (ConflictSerializable (conflict-of (contents-of b)) (contents-of b .history)) r ⌝ }
 {
-    let mut order = [0u8; 128];
-    let mut cycle = [0u8; 128];
+    let mut order = [0u8; Book::STEPS];
+    let mut cycle = [0u8; Book::STEPS];
     let uncut = without_cuts(b);
     let judgement = judge::judge_book(uncut, &mut order, &mut cycle);
     let verdict = judgement.verdict;
@@ -217,14 +225,14 @@ fn is_conflict_serializable(b: Book) -> bool
     }
 }
 
-// The reply to an accepted book.
-pub fn yes_or_no(yes: bool) -> Reply
-    ensures { λ r. ⌜ r ≡ yes-or-no yes ⌝ }
+// The reply to a book that was read: the reader's refusal, or what the test of its contents says.
+pub fn reply_to(answer: Answer, yes: bool) -> Reply
+    ensures { λ r. ⌜ r ≡ reply-to answer yes ⌝ }
 {
-    if yes {
-        return Reply::Yes;
+    match answer {
+        Answer::Refused(cause, place) => Reply::Refused(cause, place),
+        Answer::Accepted => { if yes { Reply::Yes } else { Reply::No } }
     }
-    Reply::No
 }
 
 // Whether the history of the book is serial.
@@ -233,13 +241,8 @@ pub fn serial(s: &[u8]) -> Reply
 {
     let reading = book::read(s);
     let answer = reading.answer;
-    match answer {
-        Answer::Refused(cause, place) => Reply::Refused(cause, place),
-        Answer::Accepted => {
-            let b = reading.book;
-            yes_or_no(is_serial(b))
-        }
-    }
+    let b = reading.book;
+    reply_to(answer, is_serial(b))
 }
 
 // Whether the history of the book is relatively atomic.
@@ -248,13 +251,8 @@ pub fn relatively_atomic(s: &[u8]) -> Reply
 {
     let reading = book::read(s);
     let answer = reading.answer;
-    match answer {
-        Answer::Refused(cause, place) => Reply::Refused(cause, place),
-        Answer::Accepted => {
-            let b = reading.book;
-            yes_or_no(is_relatively_atomic(b))
-        }
-    }
+    let b = reading.book;
+    reply_to(answer, is_relatively_atomic(b))
 }
 
 // Whether the history of the book is relatively serial.
@@ -263,13 +261,8 @@ pub fn relatively_serial(s: &[u8]) -> Reply
 {
     let reading = book::read(s);
     let answer = reading.answer;
-    match answer {
-        Answer::Refused(cause, place) => Reply::Refused(cause, place),
-        Answer::Accepted => {
-            let b = reading.book;
-            yes_or_no(is_relatively_serial(b))
-        }
-    }
+    let b = reading.book;
+    reply_to(answer, is_relatively_serial(b))
 }
 
 // Whether the history of the book is conflict serializable.
@@ -278,11 +271,6 @@ pub fn conflict_serializable(s: &[u8]) -> Reply
 {
     let reading = book::read(s);
     let answer = reading.answer;
-    match answer {
-        Answer::Refused(cause, place) => Reply::Refused(cause, place),
-        Answer::Accepted => {
-            let b = reading.book;
-            yes_or_no(is_conflict_serializable(b))
-        }
-    }
+    let b = reading.book;
+    reply_to(answer, is_conflict_serializable(b))
 }

@@ -12,15 +12,13 @@ use Rattle.book.specs.Format.{step-limit}
 use Rattle.book.specs.Meaning.{conflict-of, unit-of}
 use Rattle.book.specs.Book.{contents-of, Valid}
 use Rattle.book.specs.declared.Book.{Book}
-use Rattle.book.proofs.Books.{done-few, history-long}
+use Rattle.book.proofs.Books.{history-long}
+use Rattle.graph.specs.Answers.{Answers}
+use Rattle.graph.proofs.Answered.{answer-no, refute}
 use Rattle.graph.specs.Marks.{Marks}
-use Rattle.classes.specs.Inner.{Answers}
-use Rattle.classes.proofs.Answered.{answer-no, refute}
+use Rattle.graph.proofs.BookTables.{book-done}
 use Rattle.evidence.specs.Inner.{EquivalentBy, CycleBy, ArcBy, with-history}
 use Rattle.evidence.proofs.HistoryLaws.{valid-with-history, with-history-serial}
-
-pub few-done : (b : Book) → Valid b → b .done ≤ step-limit
-few-done b v = omega (arith, done-few b v, v .few-steps)
 
 module _ (b : Book) (v : Valid b) where
   module _ (arc : List ℕ) (m : Marks (Arc (conflict-of (contents-of b)) (unit-of (contents-of b)) (contents-of b .history)) arc) (t : Bool) where
@@ -50,4 +48,4 @@ module _ (b : Book) (v : Valid b) where
 
   -- the list of an order fits into the history's array
   pub order-fits : (dep l : List ℕ) (t : Bool) → Marks (Depends (conflict-of (contents-of b)) (contents-of b .history)) dep → EquivalentBy (b .history) (b .done) dep l t → t ≡ true → length l ≤ step-limit
-  order-fits dep l t m a e = omega (arith, order-length (contents-of b .history) l (equivalent dep m l t a .sound e .order), history-long b v, few-done b v)
+  order-fits dep l t m a e = omega (arith, order-length (contents-of b .history) l (equivalent dep m l t a .sound e .order), history-long b v, book-done b v)

@@ -1,13 +1,12 @@
 -- A book with an order of its history as its history: it is valid, and its contents are the book's but for the history.
-use Prim.Native.Nat.{ℕ, suc, _+_, _-_, _≤_, _<_}
+use Prim.Native.Nat.{ℕ, _+_, _-_, _≤_, _<_}
 use native.Mathlib.Omega.{arith}
 use native.Mathlib.Decide.{decLt}
-use native.Mathlib.Numerals.{add-one}
-use mathlib.Core.Path.{_≡_, refl, sym, ap, _∙_, subst}
+use mathlib.Core.Path.{_≡_, sym, ap, _∙_, subst}
 use mathlib.Core.Bool.{Bool}
 use mathlib.Core.List.{List, _++_}
-use lib.ListN.{length, getD, take, drop, set, length-append, length-drop, List·getD-append}
-use lib.Seq.{take-suc, drop-cons, set-at, append-snoc, length-take-le, take-all, take-append-seam, getD-append-add, getD-drop, getD-take}
+use lib.ListN.{length, getD, take, drop, length-append, length-drop, List·getD-append}
+use lib.Seq.{take-all, take-append-seam, getD-append-add, getD-drop, getD-take}
 use Rattle.theory.specs.History.{count, run, Order}
 use Rattle.theory.specs.Relative.{RelativelySerial}
 use Rattle.theory.proofs.Places.{place-of, place-of-spec, ordinal-lt, order-length}
@@ -15,39 +14,16 @@ use Rattle.book.specs.Format.{run-limit, step-limit}
 use Rattle.book.specs.Meaning.{conflict-of, unit-of}
 use Rattle.book.specs.Book.{contents-of, Column, Valid}
 use Rattle.book.specs.declared.Book.{Book}
-use Rattle.book.proofs.Books.{done-few, history-long, history-is}
-use Rattle.classes.specs.Inner.{Answers}
+use Rattle.book.proofs.Books.{history-long, history-is}
+use Rattle.graph.proofs.BookTables.{book-done}
+use Rattle.graph.specs.Answers.{Answers}
+use Rattle.judge.proofs.Copying.{Copying, copying-all}
 use Rattle.evidence.specs.Inner.{with-history}
 
--- ---- storing l in front of what was there
+-- ---- l in front of what was there
 
-pub record Storing (l old new : List ℕ) (end i : ℕ) : Type 0 where
-  pub ends : end ≡ length l
-  pub within : i ≤ end
-  pub is : new ≡ take i l ++ drop i old
-
-pub storing-none : (l old : List ℕ) → Storing l old old (length l) 0
-storing-none l old = record { ends = refl; within = omega arith; is = refl }
-
-pub storing-more : (l old new : List ℕ) (end i : ℕ) → length l ≤ length old → Storing l old new end i → i < end → Storing l old (set new i (getD l i 0)) end (i + 1)
-storing-more l old new end i fits w j = record {
-  ends = w .ends;
-  within = omega arith;
-  is = rw (add-one i, w .is, drop-cons old i 0 io)
-      (set-at (take i l) (getD old i 0) (drop (suc i) old) (getD l i 0) i (length-take-le i l (omega arith))
-      ∙ rw (take-suc l i 0 il) (sym (append-snoc (take i l) (getD l i 0) (drop (suc i) old))));
-}
-  where
-    il : i < length l
-    il = omega (arith, w .ends)
-
-    io : i < length old
-    io = omega arith
-
-pub storing-all : (l old new : List ℕ) (end i : ℕ) → Storing l old new end i → end ≤ i → new ≡ l ++ drop (length l) old
-storing-all l old new end i w j =
-    let e : i ≡ length l = omega (arith, w .ends, w .within) in
-    w .is ∙ rw (e, take-all (length l) l (omega arith))
+pub copied-whole : (l old new : List ℕ) (end i : ℕ) → end ≡ length l → Copying l old new end i → end ≤ i → new ≡ l ++ drop (length l) old
+copied-whole l old new end i e w j = copying-all l old new end i w j .is ∙ rw (e, take-all (length l) l (omega arith))
 
 -- ---- the book
 
@@ -56,7 +32,7 @@ module _ (b : Book) (v : Valid b) (l : List ℕ) (o : Order (contents-of b .hist
   long = order-length (contents-of b .history) l o ∙ history-long b v
 
   few : length l ≤ step-limit
-  few = omega (arith, long, done-few b v, v .few-steps)
+  few = omega (arith, long, book-done b v)
 
   -- an order holds runs of the history
   run-small : (i : ℕ) → i < length l → getD l i 0 < run-limit

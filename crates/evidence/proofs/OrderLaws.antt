@@ -23,9 +23,9 @@ use Rattle.theory.proofs.Greedy.{taken-turn}
 use Rattle.bits.specs.Table.{row-bits, bit-at, Marked}
 use Rattle.bits.specs.Table.{Within as Subset}
 use Rattle.bits.proofs.Store.{zeros-bit}
+use Rattle.graph.proofs.Answered.{answer-yes, answer-no, false-true}
 use Rattle.graph.specs.Marks.{Marks}
 use Rattle.classes.specs.Inner.{History}
-use Rattle.classes.proofs.Answered.{answer-yes, answer-no, false-true}
 use Rattle.classes.proofs.ClassLaws.{size}
 use Rattle.evidence.specs.Inner.{NextAt, NoNext, EquivalentBy}
 

@@ -11,8 +11,8 @@ use Rattle.bits.specs.Table.{bit-at}
 use Rattle.bits.specs.declared.Found.{Found}
 use Rattle.bits.specs.declared.Found.the-variants.{At, Nothing}
 use Rattle.book.specs.declared.Book.{Book}
+use Rattle.graph.specs.Answers.{Answers}
 use Rattle.graph.specs.Marks.{Marks}
-use Rattle.classes.specs.Inner.{Answers}
 
 -- the book with another array as its history's
 abbrev pub with-array : Book → List ℕ → Book

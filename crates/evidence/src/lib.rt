@@ -2,7 +2,6 @@
 use bits::Found;
 use bits::Row;
 use bits::Table;
-use book::Answer;
 use book::Book;
 use classes::Reply;
 ghost use Prim.Native.Nat.{_<_, _≤_};
@@ -10,15 +9,17 @@ ghost use mathlib.Core.Path.{_≡_};
 ghost use lib.ListN.{length};
 ghost use Rattle.theory.specs.Relative.{RelativelySerialOrder};
 ghost use Rattle.theory.specs.Graph.{Arc, Cycle};
+ghost use Rattle.book.specs.Format.{step-limit};
 ghost use Rattle.book.specs.Book.{Valid, contents-of};
 ghost use Rattle.book.specs.Meaning.{conflict-of, unit-of};
 ghost use Rattle.classes.specs.Reply.{Replies};
-ghost use Rattle.classes.specs.Inner.{Answers, History};
+ghost use Rattle.classes.specs.Inner.{History};
+ghost use Rattle.graph.specs.Answers.{Answers};
 ghost use Rattle.evidence.specs.Inner.{NextStep, EquivalentBy, Follows, CycleBy, ArcBy, with-history};
 
 // The first place of run r that is not taken.
-fn next_step(history: &[u8; 128], n: usize, taken: &Row, r: u8) -> Found
-    requires { ⌜ n ≤ 128 ⌝ }
+fn next_step(history: &[u8; Book::STEPS], n: usize, taken: &Row, r: u8) -> Found
+    requires { ⌜ n ≤ step-limit ⌝ }
     ensures { λ f. ⌜ NextStep (now (history .entry)) (now (taken .entry)) n r f ⌝ }
 {
     for p in 0..n {
@@ -33,7 +34,7 @@ fn next_step(history: &[u8; 128], n: usize, taken: &Row, r: u8) -> Found
 
 // Whether l is an order of the history that agrees with it on every conflicting pair: l's steps are taken in turn, each after all that it
 // depends on.
-fn equivalent_by(history: &[u8; 128], n: usize, dep: &Table, l: &[u8]) -> bool
+fn equivalent_by(history: &[u8; Book::STEPS], n: usize, dep: &Table, l: &[u8]) -> bool
     requires { ⌜ History (now history) n ⌝ }
     ensures { λ r. ⌜ EquivalentBy (now (history .entry)) n (now (dep .entry)) (now (l .entry)) r ⌝ }
 {
@@ -59,7 +60,7 @@ fn equivalent_by(history: &[u8; 128], n: usize, dep: &Table, l: &[u8]) -> bool
 
 // Whether x, a place below n, was not seen and has an arc from the place before it.
 fn follows(arc: &Table, n: usize, seen: &Row, before: usize, x: usize) -> bool
-    requires { ⌜ (n ≤ 128) × (before < n) ⌝ }
+    requires { ⌜ (n ≤ step-limit) × (before < n) ⌝ }
     ensures { λ r. ⌜ Answers (Follows n (now (arc .entry)) (now (seen .entry)) before x) r ⌝ }
 {
     if x >= n {
@@ -73,7 +74,7 @@ fn follows(arc: &Table, n: usize, seen: &Row, before: usize, x: usize) -> bool
 
 // Whether c is a cycle: distinct places, as many as 2 to n, each with an arc from the one before it, the first from the last.
 fn cycle_by(arc: &Table, n: usize, c: &[u8]) -> bool
-    requires { ⌜ n ≤ 128 ⌝ }
+    requires { ⌜ n ≤ step-limit ⌝ }
     ensures { λ r. ⌜ CycleBy n (now (arc .entry)) (now (c .entry)) r ⌝ }
 {
     let len = c.len();
@@ -101,7 +102,7 @@ fn cycle_by(arc: &Table, n: usize, c: &[u8]) -> bool
 
 // Whether an arc leads from the place x to the place y.
 fn arc_by(arc: &Table, n: usize, x: usize, y: usize) -> bool
-    requires { ⌜ n ≤ 128 ⌝ }
+    requires { ⌜ n ≤ step-limit ⌝ }
     ensures { λ r. ⌜ ArcBy n (now (arc .entry)) x y r ⌝ }
 {
     if x >= n {
@@ -115,7 +116,7 @@ fn arc_by(arc: &Table, n: usize, x: usize, y: usize) -> bool
 
 // The book with l, which is as long, as its history.
 fn with_history(b: Book, l: &[u8]) -> Book
-    requires { ⌜ (length (now l) ≤ 128) × (length (b .history) ≡ 128) ⌝ }
+    requires { ⌜ (length (now l) ≤ step-limit) × (length (b .history) ≡ step-limit) ⌝ }
     ensures { λ r. ⌜ r ≡ with-history b (now (l .entry)) ⌝ }
 {
     let mut history = b.history;
@@ -168,13 +169,8 @@ pub fn order_check(s: &[u8], l: &[u8]) -> Reply
 {
     let reading = book::read(s);
     let answer = reading.answer;
-    match answer {
-        Answer::Refused(cause, place) => Reply::Refused(cause, place),
-        Answer::Accepted => {
-            let b = reading.book;
-            classes::yes_or_no(is_relatively_serial_order(b, l))
-        }
-    }
+    let b = reading.book;
+    classes::reply_to(answer, is_relatively_serial_order(b, l))
 }
 
 // Whether the places are a cycle of the graph of the book's history.
@@ -183,13 +179,8 @@ pub fn cycle_check(s: &[u8], places: &[u8]) -> Reply
 {
     let reading = book::read(s);
     let answer = reading.answer;
-    match answer {
-        Answer::Refused(cause, place) => Reply::Refused(cause, place),
-        Answer::Accepted => {
-            let b = reading.book;
-            classes::yes_or_no(is_cycle(b, places))
-        }
-    }
+    let b = reading.book;
+    classes::reply_to(answer, is_cycle(b, places))
 }
 
 // Whether an arc leads from the place x to the place y in the graph of the book's history.
@@ -198,11 +189,6 @@ pub fn arc_test(s: &[u8], x: usize, y: usize) -> Reply
 {
     let reading = book::read(s);
     let answer = reading.answer;
-    match answer {
-        Answer::Refused(cause, place) => Reply::Refused(cause, place),
-        Answer::Accepted => {
-            let b = reading.book;
-            classes::yes_or_no(is_arc(b, x, y))
-        }
-    }
+    let b = reading.book;
+    classes::reply_to(answer, is_arc(b, x, y))
 }

@@ -7,7 +7,7 @@ use mathlib.Core.Logic.{_⊎_, inl, inr, _≢_}
 use mathlib.Core.List.{List}
 use lib.ListN.{length, getD, take, replicate}
 use Rattle.bits.specs.Table.{row-bits, rows, bit-at, union, intersection, Marked, Replaced, Copied}
-use Rattle.bits.specs.First.{NoneFrom}
+use Rattle.bits.specs.First.{NoColumn}
 use Rattle.bits.specs.Last.{LastAt, Last}
 use Rattle.bits.specs.declared.Found.{Found}
 use Rattle.bits.specs.declared.Found.the-variants.{At, Nothing}
@@ -16,6 +16,7 @@ use Rattle.theory.specs.History.{run}
 use Rattle.theory.specs.Relative.{Depends}
 use Rattle.theory.specs.Graph.{FirstOf, LastOf, ArcD, Arc, arc-I, arc-D, arc-F, arc-B}
 use Rattle.theory.proofs.Steps.{dep-lt, dep-inside}
+use Rattle.book.specs.Format.{run-limit, step-limit}
 use Rattle.graph.specs.Marks.{Marks}
 use Rattle.graph.specs.Units.{Each}
 use Rattle.graph.specs.Tables.{HistoryOf, Declared, NumberAt}
@@ -112,9 +113,6 @@ module _ (hist : List ℕ) (n : ℕ) (dep firsts lasts mask : List ℕ) (r q : �
   sources-lt : (c : ℕ) → sources c < 2
   sources-lt c = omega (arith, bit-at-lt dep q c)
 
-  wide-enough : n ≤ 128
-  wide-enough = w .history .within
-
   q-inside : q < length (take n hist)
   q-inside = rw (hist-length (w .history)) iq
 
@@ -140,10 +138,10 @@ module _ (hist : List ℕ) (n : ℕ) (dep firsts lasts mask : List ℕ) (r q : �
     arc-source x y (by-F p e d f z) = (p, e, d .depends)
     arc-source x y (by-B e d f) = (x, e, d .depends)
 
-    no-arc : NoneFrom sources 0 → (x y : ℕ) → ¬ ArcBy (a .conflict) (a .unit) (take n hist) r q x y
+    no-arc : NoColumn sources → (x y : ℕ) → ¬ ArcBy (a .conflict) (a .unit) (take n hist) r q x y
     no-arc none x y k =
         let s = arc-source x y k in
-        clash (none .none (s .0) (omega arith) (omega (arith, below (s .0) (s .2)))) (source-complete (s .0) (s .1) (s .2))
+        clash (none .none (s .0) (omega (arith, below (s .0) (s .2)))) (source-complete (s .0) (s .1) (s .2))
 
     module _ (l : ℕ) (la : LastAt sources l) where
       last-source : LastSource (a .conflict) (take n hist) r q l
@@ -172,8 +170,8 @@ module _ (hist : List ℕ) (n : ℕ) (dep firsts lasts mask : List ℕ) (r q : �
           from x y (by-B f d g) = absurd (d .other (f ∙ e))
 
       -- another run
-      module _ (s e f : ℕ) (es : run (take n hist) q ≡ s) (ne : r ≢ s) (ee : e ≡ getD lasts (l * 16 + s) 0) (ef : f ≡ getD firsts (q * 16 + r) 0) where
-        s-small : s < 16
+      module _ (s e f : ℕ) (es : run (take n hist) q ≡ s) (ne : r ≢ s) (ee : e ≡ getD lasts (l * run-limit + s) 0) (ef : f ≡ getD firsts (q * run-limit + r) 0) where
+        s-small : s < run-limit
         s-small = rw (← es) (hist-small (w .history) q q-inside)
 
         is-last : LastOf (a .unit) (take n hist) (run (take n hist) q) l e
@@ -226,20 +224,20 @@ module _ (hist : List ℕ) (n : ℕ) (dep firsts lasts mask : List ℕ) (r q : �
   pub found-small : (l : ℕ) (found : Found) → Last sources found → found ≡ At l → l < row-bits
   found-small l found la e = found-last l found la e .in-row
 
-  pub found-own : (l s : ℕ) (found : Found) (t u : List ℕ) → Last sources found → found ≡ At l → NumberAt hist q 16 s → r ≡ s → Marked t u q l → GainedBy ArcBy (take n hist) dep firsts lasts r q t u
+  pub found-own : (l s : ℕ) (found : Found) (t u : List ℕ) → Last sources found → found ≡ At l → NumberAt hist q run-limit s → r ≡ s → Marked t u q l → GainedBy ArcBy (take n hist) dep firsts lasts r q t u
   found-own l s found t u la e z rs m = record { by = λ a. own-arc a l (subst (Last sources) e la) (rs ∙ z .is ∙ sym (hist-run hist n q iq)) t u m }
 
   pub last-small : (l : ℕ) → LastAt sources l → l < n
   last-small l la = below (w .tables) l (last-source (w .tables) l la .depends)
 
-  pub across-all : (l s e f : ℕ) (t u v x : List ℕ) → LastAt sources l → NumberAt hist q 16 s → r ≢ s → NumberAt lasts (l * 16 + s) 128 e → NumberAt firsts (q * 16 + r) 128 f
+  pub across-all : (l s e f : ℕ) (t u v x : List ℕ) → LastAt sources l → NumberAt hist q run-limit s → r ≢ s → NumberAt lasts (l * run-limit + s) step-limit e → NumberAt firsts (q * run-limit + r) step-limit f
       → Marked t u q e → Replaced u v q (union (bit-at u q) sources) → Replaced v x f (union (bit-at v f) sources) → GainedBy ArcBy (take n hist) dep firsts lasts r q t x
   across-all l s e f t u v x la z ne ze zf m j k = record { by = λ a. across-arcs a l la s e f (hist-run hist n q iq ∙ sym (z .is)) ne (ze .is) (zf .is) t u v x m j k }
 
 -- ---- tables of places
 
 rowed : {E : ℕ → ℕ → ℕ → Type 0} (hist : List ℕ) (n : ℕ) (t : List ℕ) → HistoryOf hist n → ((o p f : ℕ) → E o p f → f < length (take n hist)) → Each E 0 (length (take n hist)) t → Rowed n t
-rowed hist n t hs f w = record { small = λ p o i ho. omega (arith, f o p (getD t (p * 16 + o) 0) (w .at p o (omega arith) (rw (hist-length hs) i) ho), hist-length hs, hs .within) }
+rowed hist n t hs f w = record { small = λ p o i ho. omega (arith, f o p (getD t (p * run-limit + o) 0) (w .at p o (omega arith) (rw (hist-length hs) i) ho), hist-length hs, hs .within) }
 
 module _ (hist : List ℕ) (n : ℕ) (dep firsts lasts mask : List ℕ) (r : ℕ) (w : ArcInput hist n dep firsts lasts mask r) where
   pub input-firsts : Rowed n firsts
@@ -248,7 +246,7 @@ module _ (hist : List ℕ) (n : ℕ) (dep firsts lasts mask : List ℕ) (r : ℕ
   pub input-lasts : Rowed n lasts
   input-lasts = rowed hist n lasts (w .history) (λ o p f e. e .inside) (w .tables .lasts-are)
 
-pub place-at : (n : ℕ) (t : List ℕ) (p o r : ℕ) → Rowed n t → p < n → o < 16 → r ≡ getD t (p * 16 + o) 0 → NumberAt t (p * 16 + o) 128 r
+pub place-at : (n : ℕ) (t : List ℕ) (p o r : ℕ) → Rowed n t → p < n → o < run-limit → r ≡ getD t (p * run-limit + o) 0 → NumberAt t (p * run-limit + o) step-limit r
 place-at n t p o r a i j e = record { is = e; small = rw e (a .small p o i j) }
 
 -- ---- one place after another, and one run after another
@@ -329,7 +327,7 @@ runs-all hist n dep firsts lasts r m runs u hs ds l g = record {
 pub masks-none : (h : List ℕ) (m : ℕ) → Marks (InRun h 0) (replicate m 0)
 masks-none h m = record { sound = λ x y hx hy e. absurd (clash (zeros-bit m y x) e); complete = λ x y hx hy k. absurd (low x (k .below)) }
 
-pub masks-more : (hist : List ℕ) (n p r : ℕ) (t u : List ℕ) → p < n → NumberAt hist p 16 r → Marked t u r p → Marks (InRun (take n hist) p) t → Marks (InRun (take n hist) (p + 1)) u
+pub masks-more : (hist : List ℕ) (n p r : ℕ) (t u : List ℕ) → p < n → NumberAt hist p run-limit r → Marked t u r p → Marks (InRun (take n hist) p) t → Marks (InRun (take n hist) (p + 1)) u
 masks-more hist n p r t u i z s w = record {
   sound = λ x y hx hy e. sound-at x y hx hy (gained-mark t u r p s .sound x y hx hy e);
   complete = λ x y hx hy k. complete-at x y hx hy k (below-next x p (k .below));

@@ -12,9 +12,10 @@ use lib.Seq.{getD-take, getD-drop, take-take, length-take-le}
 use lib.Dec.{T, eqb, leb, eqb→eq}
 use borrow.Author.Tests.{leb-true, le-leb, lt-leb}
 use Rattle.book.specs.declared.Book.{Book}
-use Rattle.book.specs.Format.{pick, sum}
+use Rattle.book.specs.Format.{kind-limit, run-limit, run-step-limit, step-limit, pick, sum}
 use Rattle.book.specs.Book.{marked, pair-of, cut-of, steps-at, runs-of-lengths, steps-of, lengths-of, history-of, contents-of, Valid}
 use Rattle.book.specs.Meaning.{conflict-of, unit-of}
+use Rattle.book.proofs.Books.{done-few}
 use Rattle.theory.specs.History.{suc-if, count, run, ordinal}
 use Rattle.theory.specs.Relative.{Conflicting, Depends}
 use Rattle.theory.specs.Graph.{FirstOf, LastOf, Arc}
@@ -23,7 +24,7 @@ use Rattle.theory.proofs.Places.{Compared, eq-cases, eqb-of-eq, eqb-of-ne, ordi
 use Rattle.graph.specs.Marks.{Marks}
 use Rattle.graph.specs.Units.{Kept, UnitTables}
 use Rattle.graph.specs.Dependence.{Links, StepsRead}
-use Rattle.graph.specs.Tables.{Small, HistoryOf, Declared, Starts, Room, StepsByPlace, Link, Counts, CutsOf, EachBy, by-flag}
+use Rattle.graph.specs.Tables.{run-cuts, Small, HistoryOf, Declared, Starts, Room, StepsByPlace, Link, Counts, CutsOf, EachBy, by-flag}
 use Rattle.graph.specs.Arcs.{TablesOf, ArcRows}
 use Rattle.graph.proofs.Counting.{flag-none, flag-some, hist-length, hist-run, hist-small}
 use Rattle.graph.proofs.Steps.{sum-take, sum-take-le}
@@ -59,28 +60,28 @@ count-marked l c = ap (count (marked 0 l)) (sym (zero-add c)) ∙ count-from l 0
 
 -- ---- pairs
 
-pair-code : (x a b : ℕ) → b < 16 → (eqb (x / 16) a && eqb (x % 16) b) ≡ eqb x (a * 16 + b)
-pair-code x a b h = go (eq-cases (x / 16) a) (eq-cases (x % 16) b)
+pair-code : (x a b : ℕ) → b < kind-limit → (eqb (x / kind-limit) a && eqb (x % kind-limit) b) ≡ eqb x (a * kind-limit + b)
+pair-code x a b h = go (eq-cases (x / kind-limit) a) (eq-cases (x % kind-limit) b)
   where
-    go : Compared (x / 16) a → Compared (x % 16) b → (eqb (x / 16) a && eqb (x % 16) b) ≡ eqb x (a * 16 + b)
-    go (inl c) (inl d) = rw (c .0, d .0, eqb-of-eq x (a * 16 + b) (omega (arith, c .1, d .1)))
-    go (inl c) (inr d) = rw (c .0, d .0, eqb-of-ne x (a * 16 + b) (λ e. d .1 (omega arith)))
-    go (inr c) d = rw (c .0, eqb-of-ne x (a * 16 + b) (λ e. c .1 (omega arith)))
+    go : Compared (x / kind-limit) a → Compared (x % kind-limit) b → (eqb (x / kind-limit) a && eqb (x % kind-limit) b) ≡ eqb x (a * kind-limit + b)
+    go (inl c) (inl d) = rw (c .0, d .0, eqb-of-eq x (a * kind-limit + b) (omega (arith, c .1, d .1)))
+    go (inl c) (inr d) = rw (c .0, d .0, eqb-of-ne x (a * kind-limit + b) (λ e. d .1 (omega arith)))
+    go (inr c) d = rw (c .0, eqb-of-ne x (a * kind-limit + b) (λ e. c .1 (omega arith)))
 
 -- the pair stands in the list one way round or the other
-listed-count : (xs : List ℕ) (a b : ℕ) → a < 16 → b < 16 → T (listed (map pair-of xs) a b) → (count xs (a * 16 + b) ≢ 0) ⊎ (count xs (b * 16 + a) ≢ 0)
+listed-count : (xs : List ℕ) (a b : ℕ) → a < kind-limit → b < kind-limit → T (listed (map pair-of xs) a b) → (count xs (a * kind-limit + b) ≢ 0) ⊎ (count xs (b * kind-limit + a) ≢ 0)
 listed-count [] a b ha hb t = absurd t
-listed-count (x ∷ xs) a b ha hb t = go (eqb x (a * 16 + b)) (eqb x (b * 16 + a)) (listed-count xs a b ha hb) (rw (pair-code x a b hb, pair-code x b a ha) at t)
+listed-count (x ∷ xs) a b ha hb t = go (eqb x (a * kind-limit + b)) (eqb x (b * kind-limit + a)) (listed-count xs a b ha hb) (rw (pair-code x a b hb, pair-code x b a ha) at t)
   where
     go : {m n : ℕ} (u v : Bool) → (T (listed (map pair-of xs) a b) → (m ≢ 0) ⊎ (n ≢ 0)) → T ((u || v) || listed (map pair-of xs) a b) → (suc-if u m ≢ 0) ⊎ (suc-if v n ≢ 0)
     go true v f t = inl (λ e. omega arith)
     go false true f t = inr (λ e. omega arith)
     go false false f t = f t
 
-count-listed : (xs : List ℕ) (a b : ℕ) → a < 16 → b < 16 → (count xs (a * 16 + b) ≢ 0) ⊎ (count xs (b * 16 + a) ≢ 0) → T (listed (map pair-of xs) a b)
+count-listed : (xs : List ℕ) (a b : ℕ) → a < kind-limit → b < kind-limit → (count xs (a * kind-limit + b) ≢ 0) ⊎ (count xs (b * kind-limit + a) ≢ 0) → T (listed (map pair-of xs) a b)
 count-listed [] a b ha hb (inl n) = absurd (n refl)
 count-listed [] a b ha hb (inr n) = absurd (n refl)
-count-listed (x ∷ xs) a b ha hb n = rw (pair-code x a b hb, pair-code x b a ha) (go (eqb x (a * 16 + b)) (eqb x (b * 16 + a)) (count-listed xs a b ha hb) n)
+count-listed (x ∷ xs) a b ha hb n = rw (pair-code x a b hb, pair-code x b a ha) (go (eqb x (a * kind-limit + b)) (eqb x (b * kind-limit + a)) (count-listed xs a b ha hb) n)
   where
     go : {m n : ℕ} (u v : Bool) → ((m ≢ 0) ⊎ (n ≢ 0) → T (listed (map pair-of xs) a b)) → (suc-if u m ≢ 0) ⊎ (suc-if v n ≢ 0) → T ((u || v) || listed (map pair-of xs) a b)
     go true v f t = tt
@@ -107,16 +108,16 @@ unit-rises (c ∷ cs) r o i j l = go (eqb (c .of-run) r) (eqb (c .seen-by) o) (d
     go true true (no k) h = step (leb (c .after) i) (leb (c .after) j) (λ e. absurd (k (leb-true (c .after) i e))) h
 
 -- one more step: the cuts that lie right before it are counted too
-unit-next : (xs : List ℕ) (r o i : ℕ) → o < 16 → suc i < 32 → unit (map cut-of xs) r o (suc i) ≡ unit (map cut-of xs) r o i + count xs (r * 512 + suc i * 16 + o)
+unit-next : (xs : List ℕ) (r o i : ℕ) → o < run-limit → suc i < run-step-limit → unit (map cut-of xs) r o (suc i) ≡ unit (map cut-of xs) r o i + count xs (r * run-cuts + suc i * run-limit + o)
 unfolding unit
 unit-next [] r o i ho hi = refl
-unit-next (x ∷ xs) r o i ho hi = go (unit (map cut-of xs) r o (suc i)) (unit (map cut-of xs) r o i) (count xs (r * 512 + suc i * 16 + o))
-    (eq-cases (x / 512) r) (eq-cases (x % 16) o) (ℕ-discrete (x % 512 / 16) (suc i)) (unit-next xs r o i ho hi)
+unit-next (x ∷ xs) r o i ho hi = go (unit (map cut-of xs) r o (suc i)) (unit (map cut-of xs) r o i) (count xs (r * run-cuts + suc i * run-limit + o))
+    (eq-cases (x / run-cuts) r) (eq-cases (x % run-limit) o) (ℕ-discrete (x % run-cuts / run-limit) (suc i)) (unit-next xs r o i ho hi)
   where
     -- the same cuts as before, and x is not the new one
-    other : (m n k : ℕ) (u v : Bool) → u ≡ v → x ≢ r * 512 + suc i * 16 + o → m ≡ n + k → suc-if u m ≡ suc-if v n + suc-if (eqb x (r * 512 + suc i * 16 + o)) k
-    other m n k true v e ne h = rw (eqb-of-ne x (r * 512 + suc i * 16 + o) ne, ← e) (omega arith)
-    other m n k false v e ne h = rw (eqb-of-ne x (r * 512 + suc i * 16 + o) ne, ← e) h
+    other : (m n k : ℕ) (u v : Bool) → u ≡ v → x ≢ r * run-cuts + suc i * run-limit + o → m ≡ n + k → suc-if u m ≡ suc-if v n + suc-if (eqb x (r * run-cuts + suc i * run-limit + o)) k
+    other m n k true v e ne h = rw (eqb-of-ne x (r * run-cuts + suc i * run-limit + o) ne, ← e) (omega arith)
+    other m n k false v e ne h = rw (eqb-of-ne x (r * run-cuts + suc i * run-limit + o) ne, ← e) h
 
     late : (a : ℕ) → a ≢ suc i → leb a (suc i) ≡ leb a i
     late a ne = by (decLe a i)
@@ -125,25 +126,25 @@ unit-next (x ∷ xs) r o i ho hi = go (unit (map cut-of xs) r o (suc i)) (unit (
         by (yes l) = le-leb a (suc i) (omega arith) ∙ sym (le-leb a i l)
         by (no l) = lt-leb a (suc i) (omega arith) ∙ sym (lt-leb a i (omega arith))
 
-    go : (m n k : ℕ) → Compared (x / 512) r → Compared (x % 16) o → Dec (x % 512 / 16 ≡ suc i) → m ≡ n + k
-        → suc-if (eqb (x / 512) r && (eqb (x % 16) o && leb (x % 512 / 16) (suc i))) m
-        ≡ suc-if (eqb (x / 512) r && (eqb (x % 16) o && leb (x % 512 / 16) i)) n + suc-if (eqb x (r * 512 + suc i * 16 + o)) k
+    go : (m n k : ℕ) → Compared (x / run-cuts) r → Compared (x % run-limit) o → Dec (x % run-cuts / run-limit ≡ suc i) → m ≡ n + k
+        → suc-if (eqb (x / run-cuts) r && (eqb (x % run-limit) o && leb (x % run-cuts / run-limit) (suc i))) m
+        ≡ suc-if (eqb (x / run-cuts) r && (eqb (x % run-limit) o && leb (x % run-cuts / run-limit) i)) n + suc-if (eqb x (r * run-cuts + suc i * run-limit + o)) k
     go m n k (inr c) d f h = rw (c .0) (other m n k false false refl (λ e. c .1 (omega arith)) h)
     go m n k (inl c) (inr d) f h = rw (c .0, d .0) (other m n k false false refl (λ e. d .1 (omega arith)) h)
-    go m n k (inl c) (inl d) (no f) h = rw (c .0, d .0) (other m n k (leb (x % 512 / 16) (suc i)) (leb (x % 512 / 16) i) (late (x % 512 / 16) f) (λ e. f (omega arith)) h)
+    go m n k (inl c) (inl d) (no f) h = rw (c .0, d .0) (other m n k (leb (x % run-cuts / run-limit) (suc i)) (leb (x % run-cuts / run-limit) i) (late (x % run-cuts / run-limit) f) (λ e. f (omega arith)) h)
     go m n k (inl c) (inl d) (yes f) h =
-        let e : eqb x (r * 512 + suc i * 16 + o) ≡ true = eqb-of-eq x (r * 512 + suc i * 16 + o) (omega (arith, c .1, d .1)) in
-        rw (c .0, d .0, e, le-leb (x % 512 / 16) (suc i) (omega arith), lt-leb (x % 512 / 16) i (omega arith)) (omega arith)
+        let e : eqb x (r * run-cuts + suc i * run-limit + o) ≡ true = eqb-of-eq x (r * run-cuts + suc i * run-limit + o) (omega (arith, c .1, d .1)) in
+        rw (c .0, d .0, e, le-leb (x % run-cuts / run-limit) (suc i) (omega arith), lt-leb (x % run-cuts / run-limit) i (omega arith)) (omega arith)
 
 pub cuts-of : (cuts : List ℕ) → CutsOf (unit (map cut-of (marked 0 cuts))) cuts
 cuts-of cuts = record {
   rises = unit-rises (map cut-of (marked 0 cuts));
-  uncut = λ r o i ho hi e. omega (arith, next r o i ho hi, flag-none (getD cuts (r * 512 + suc i * 16 + o) 0) 0 1 e);
-  cut = λ r o i ho hi e. omega (arith, next r o i ho hi, flag-some (getD cuts (r * 512 + suc i * 16 + o) 0) 0 1 e);
+  uncut = λ r o i ho hi e. omega (arith, next r o i ho hi, flag-none (getD cuts (r * run-cuts + suc i * run-limit + o) 0) 0 1 e);
+  cut = λ r o i ho hi e. omega (arith, next r o i ho hi, flag-some (getD cuts (r * run-cuts + suc i * run-limit + o) 0) 0 1 e);
 }
   where
-    next : (r o i : ℕ) → o < 16 → suc i < 32 → unit (map cut-of (marked 0 cuts)) r o (suc i) ≡ unit (map cut-of (marked 0 cuts)) r o i + by-flag (getD cuts (r * 512 + suc i * 16 + o) 0) 0 1
-    next r o i ho hi = unit-next (marked 0 cuts) r o i ho hi ∙ ap (λ (x : ℕ). unit (map cut-of (marked 0 cuts)) r o i + x) (count-marked cuts (r * 512 + suc i * 16 + o))
+    next : (r o i : ℕ) → o < run-limit → suc i < run-step-limit → unit (map cut-of (marked 0 cuts)) r o (suc i) ≡ unit (map cut-of (marked 0 cuts)) r o i + by-flag (getD cuts (r * run-cuts + suc i * run-limit + o) 0) 0 1
+    next r o i ho hi = unit-next (marked 0 cuts) r o i ho hi ∙ ap (λ (x : ℕ). unit (map cut-of (marked 0 cuts)) r o i + x) (count-marked cuts (r * run-cuts + suc i * run-limit + o))
 
 -- ---- steps
 
@@ -181,19 +182,17 @@ sum-ended [] (suc n) f = refl
 sum-ended (x ∷ l) zero f = let z : x ≡ 0 = f 0 zero-le in omega (arith, sum-ended l zero (λ r h. f (suc r) zero-le), z)
 sum-ended (x ∷ l) (suc n) f = ap (λ (y : ℕ). x + y) (sum-ended l n (λ r h. f (suc r) (suc-le-suc h)))
 
-sum-mono : (xs ys : List ℕ) → ((r : ℕ) → getD xs r 0 ≤ getD ys r 0) → sum xs ≤ sum ys
-sum-mono [] ys f = zero-le
-sum-mono (x ∷ xs) [] f = let z = f 0 in omega (arith, z, sum-mono xs [] (λ r. f (suc r)))
-sum-mono (x ∷ xs) (y ∷ ys) f = let z = f 0 in omega (arith, z, sum-mono xs ys (λ r. f (suc r)))
-
 -- ---- a valid book
 
 module _ (b : Book) (v : Valid b) where
   abbrev h : List ℕ
   h = history-of b
 
-  pub book-sum : sum (b .lens) ≤ 128
+  pub book-sum : sum (b .lens) ≤ step-limit
   book-sum = omega (arith, sum-ended (b .lens) (b .runs) (v .lens .blank), v .steps-sum, v .few-steps)
+
+  pub book-done : b .done ≤ step-limit
+  book-done = omega (arith, done-few b v, v .few-steps)
 
   pub book-counts : (r : ℕ) → count h r ≤ getD (b .lens) r 0
   book-counts r = omega (arith, v .done-count r, v .done-within r)
@@ -201,15 +200,12 @@ module _ (b : Book) (v : Valid b) where
   pub book-history : HistoryOf (b .history) (b .done)
   book-history = record {
     long = v .history .long;
-    within = omega (arith, v .done-sum, sum-mono (b .dones) (b .lens) (v .done-within), book-sum);
+    within = book-done;
     runs = record { small = v .history .small };
     few = λ r. omega (arith, book-counts r, v .lens .small r);
   }
 
-  pub book-done : b .done ≤ 128
-  book-done = book-history .within
-
-  pub book-kinds : Small 16 (b .kinds)
+  pub book-kinds : Small kind-limit (b .kinds)
   book-kinds = record { small = v .kinds .small }
 
   pub book-room : (starts : List ℕ) → Starts (b .lens) starts → Room h starts
@@ -279,27 +275,27 @@ module _ (b : Book) (v : Valid b) where
 
   -- ---- direct dependence
 
-  listed-flags : (x y : ℕ) → x < 16 → y < 16 → T (listed (contents-of b .pairs) x y) → (getD (b .pairs) (x * 16 + y) 0 ≢ 0) ⊎ (getD (b .pairs) (y * 16 + x) 0 ≢ 0)
+  listed-flags : (x y : ℕ) → x < kind-limit → y < kind-limit → T (listed (contents-of b .pairs) x y) → (getD (b .pairs) (x * kind-limit + y) 0 ≢ 0) ⊎ (getD (b .pairs) (y * kind-limit + x) 0 ≢ 0)
   unfolding contents-of
   listed-flags x y hx hy t = go (listed-count (marked 0 (b .pairs)) x y hx hy t)
     where
       set : (c : ℕ) → count (marked 0 (b .pairs)) c ≢ 0 → getD (b .pairs) c 0 ≢ 0
       set c n e = n (count-marked (b .pairs) c ∙ flag-none (getD (b .pairs) c 0) 0 1 e)
 
-      go : (count (marked 0 (b .pairs)) (x * 16 + y) ≢ 0) ⊎ (count (marked 0 (b .pairs)) (y * 16 + x) ≢ 0) → (getD (b .pairs) (x * 16 + y) 0 ≢ 0) ⊎ (getD (b .pairs) (y * 16 + x) 0 ≢ 0)
-      go (inl n) = inl (set (x * 16 + y) n)
-      go (inr n) = inr (set (y * 16 + x) n)
+      go : (count (marked 0 (b .pairs)) (x * kind-limit + y) ≢ 0) ⊎ (count (marked 0 (b .pairs)) (y * kind-limit + x) ≢ 0) → (getD (b .pairs) (x * kind-limit + y) 0 ≢ 0) ⊎ (getD (b .pairs) (y * kind-limit + x) 0 ≢ 0)
+      go (inl n) = inl (set (x * kind-limit + y) n)
+      go (inr n) = inr (set (y * kind-limit + x) n)
 
-  flags-listed : (x y : ℕ) → x < 16 → y < 16 → (getD (b .pairs) (x * 16 + y) 0 ≢ 0) ⊎ (getD (b .pairs) (y * 16 + x) 0 ≢ 0) → T (listed (contents-of b .pairs) x y)
+  flags-listed : (x y : ℕ) → x < kind-limit → y < kind-limit → (getD (b .pairs) (x * kind-limit + y) 0 ≢ 0) ⊎ (getD (b .pairs) (y * kind-limit + x) 0 ≢ 0) → T (listed (contents-of b .pairs) x y)
   unfolding contents-of
   flags-listed x y hx hy f = count-listed (marked 0 (b .pairs)) x y hx hy (go f)
     where
       counts : (c : ℕ) → getD (b .pairs) c 0 ≢ 0 → count (marked 0 (b .pairs)) c ≢ 0
       counts c n e = omega (arith, count-marked (b .pairs) c, flag-some (getD (b .pairs) c 0) 0 1 n)
 
-      go : (getD (b .pairs) (x * 16 + y) 0 ≢ 0) ⊎ (getD (b .pairs) (y * 16 + x) 0 ≢ 0) → (count (marked 0 (b .pairs)) (x * 16 + y) ≢ 0) ⊎ (count (marked 0 (b .pairs)) (y * 16 + x) ≢ 0)
-      go (inl n) = inl (counts (x * 16 + y) n)
-      go (inr n) = inr (counts (y * 16 + x) n)
+      go : (getD (b .pairs) (x * kind-limit + y) 0 ≢ 0) ⊎ (getD (b .pairs) (y * kind-limit + x) 0 ≢ 0) → (count (marked 0 (b .pairs)) (x * kind-limit + y) ≢ 0) ⊎ (count (marked 0 (b .pairs)) (y * kind-limit + x) ≢ 0)
+      go (inl n) = inl (counts (x * kind-limit + y) n)
+      go (inr n) = inr (counts (y * kind-limit + x) n)
 
   module _ (starts kinds positions : List ℕ) (s : Starts (b .lens) starts) (w : StepsByPlace h starts (b .kinds) (b .positions) kinds positions (b .done)) where
     module _ (p : ℕ) (i : p < length h) where
@@ -310,7 +306,7 @@ module _ (b : Book) (v : Valid b) where
       position-is = ap (λ (x : Step). x .position) (step-is p i starts s) ∙ sym (w .positions-at .at p (rw (← hist-length book-history) i))
 
     abbrev Clash : ℕ → ℕ → Type 0
-    Clash p q = (getD positions p 0 ≡ getD positions q 0) × ((getD (b .pairs) (getD kinds p 0 * 16 + getD kinds q 0) 0 ≢ 0) ⊎ (getD (b .pairs) (getD kinds q 0 * 16 + getD kinds p 0) 0 ≢ 0))
+    Clash p q = (getD positions p 0 ≡ getD positions q 0) × ((getD (b .pairs) (getD kinds p 0 * kind-limit + getD kinds q 0) 0 ≢ 0) ⊎ (getD (b .pairs) (getD kinds q 0 * kind-limit + getD kinds p 0) 0 ≢ 0))
 
     module _ (p q : ℕ) (ip : p < length h) (iq : q < length h) where
       conflict-clash : Conflicting (conflict-of (contents-of b)) h p q → Clash p q

@@ -11,6 +11,7 @@ use lib.Seq.{getD-take, length-take-le}
 use lib.Dec.{eqb}
 use Rattle.theory.specs.History.{suc-if, count, run}
 use Rattle.theory.proofs.Places.{eqb-of-ne}
+use Rattle.book.specs.Format.{run-limit}
 use Rattle.graph.specs.Tables.{Small, HistoryOf, NumberAt, by-flag}
 
 pub low : (k : ℕ) → k < 0 → ⊥
@@ -50,7 +51,7 @@ hist-length {hist} {n} w = length-take-le n hist (omega (arith, w .within, w .lo
 pub hist-run : (hist : List ℕ) (n p : ℕ) → p < n → run (take n hist) p ≡ getD hist p 0
 hist-run hist n p i = getD-take n hist p 0 i
 
-pub hist-small : {hist : List ℕ} {n : ℕ} → HistoryOf hist n → (p : ℕ) → p < length (take n hist) → run (take n hist) p < 16
+pub hist-small : {hist : List ℕ} {n : ℕ} → HistoryOf hist n → (p : ℕ) → p < length (take n hist) → run (take n hist) p < run-limit
 hist-small {hist} {n} w p i = rw (hist-run hist n p (rw (hist-length w) at i)) (w .runs .small p)
 
 pub zeros : (n i : ℕ) → _≡_ {A = ℕ} (getD (replicate n 0) i 0) 0

@@ -14,9 +14,10 @@ use Rattle.bits.specs.Table.{row-bits, rows, bit-at, union, Marked, Replaced}
 use Rattle.bits.proofs.Store.{bit-at-lt, zeros-bit}
 use Rattle.theory.specs.Relative.{DirectlyDepends, Depends, direct, through}
 use Rattle.theory.proofs.Steps.{dep-inside}
+use Rattle.graph.specs.Answers.{Answers}
 use Rattle.graph.specs.Marks.{Marks}
 use Rattle.graph.specs.Dependence.{DependsSoFar, Links, StepsRead, StepRead}
-use Rattle.graph.specs.Tables.{Says, Fresh}
+use Rattle.graph.specs.Tables.{Fresh}
 use Rattle.graph.proofs.Counting.{low, clash, below-next}
 
 pub dep-trans : {conflict : ℕ → ℕ → ℕ → ℕ → Bool} {h : List ℕ} {x k q : ℕ} → Depends conflict h x k → Depends conflict h k q → Depends conflict h x q
@@ -181,8 +182,8 @@ steps-marks L conflict h t n l e s =
 pub fresh-known : (L : ℕ → ℕ → Type 0) (t : List ℕ) (p q : ℕ) (answer : Bool) → answer ≡ eqb (bit-at t q p) 1 → answer ≡ true → Fresh L t p q false
 fresh-known L t p q answer e z = record { linked = λ z. absurd (true≢false (sym z)); known = λ z′ l. eqb-true (bit-at t q p) 1 (sym e ∙ z) }
 
-pub fresh-linked : (L : ℕ → ℕ → Type 0) (t : List ℕ) (p q : ℕ) (answer : Bool) → Says (L p q) answer → answer ≡ true → Fresh L t p q true
+pub fresh-linked : (L : ℕ → ℕ → Type 0) (t : List ℕ) (p q : ℕ) (answer : Bool) → Answers (L p q) answer → answer ≡ true → Fresh L t p q true
 fresh-linked L t p q answer s z = record { linked = λ _. s .sound z; known = λ z′ l. absurd (true≢false z′) }
 
-pub fresh-apart : (L : ℕ → ℕ → Type 0) (t : List ℕ) (p q : ℕ) (answer : Bool) → Says (L p q) answer → answer ≡ false → Fresh L t p q false
+pub fresh-apart : (L : ℕ → ℕ → Type 0) (t : List ℕ) (p q : ℕ) (answer : Bool) → Answers (L p q) answer → answer ≡ false → Fresh L t p q false
 fresh-apart L t p q answer s z = record { linked = λ z′. absurd (true≢false (sym z′)); known = λ z′ l. absurd (true≢false (sym (s .complete l) ∙ z)) }

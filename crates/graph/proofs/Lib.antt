@@ -1,4 +1,5 @@
 -- The laws that the proofs of `graph` and of its users cite.
+pub mod Answered
 pub mod Counting
 pub mod Steps
 pub mod DependenceRows

@@ -13,15 +13,16 @@ use lib.ListN.{length, getD, take, set, replicate}
 use lib.Seq.{getD-set-same, getD-set-other, take-take}
 use Rattle.theory.specs.History.{count, run, ordinal}
 use Rattle.theory.proofs.Places.{place-of, place-of-back, count-take-lt, count-take-le}
-use Rattle.graph.specs.Tables.{HistoryOf, Numbering}
+use Rattle.book.specs.Format.{run-limit, run-step-limit, step-limit}
+use Rattle.graph.specs.Tables.{places-size, HistoryOf, Numbering}
 use Rattle.graph.proofs.Counting.{low, below-next, count-take-ne, hist-length, hist-run, zeros}
 
 -- the places below p are numbered, and counts has how many there are of each run
 pub record NumberedBelow (h ordinals places counts : List ℕ) (n p : ℕ) : Type 0 where
   pub within : p ≤ n
   pub ordinals-are : (k : ℕ) → k < p → getD ordinals k 0 ≡ ordinal h k
-  pub places-are : (r i : ℕ) → r < 16 → i < count (take p h) r → getD places (r * 32 + i) 0 ≡ place-of h r i
-  pub counts-are : (r : ℕ) → r < 16 → getD counts r 0 ≡ count (take p h) r
+  pub places-are : (r i : ℕ) → r < run-limit → i < count (take p h) r → getD places (r * run-step-limit + i) 0 ≡ place-of h r i
+  pub counts-are : (r : ℕ) → r < run-limit → getD counts r 0 ≡ count (take p h) r
 
 pub numbered-none : (h ordinals places : List ℕ) (n m : ℕ) → NumberedBelow h ordinals places (replicate m 0) n 0
 numbered-none h ordinals places n m = record {
@@ -36,7 +37,7 @@ module _ (hist ordinals places counts : List ℕ) (n p : ℕ) (hs : HistoryOf hi
   inside : p < length (take n hist)
   inside = rw (hist-length hs) i
 
-  small : r < 16
+  small : r < run-limit
   small = rw er (hs .runs .small p)
 
   is-run : run (take n hist) p ≡ r
@@ -52,18 +53,18 @@ module _ (hist ordinals places counts : List ℕ) (n p : ℕ) (hs : HistoryOf hi
   next-count : count (take (suc p) (take n hist)) r ≡ suc c
   next-count = sym (count-take-lt (take n hist) r p inside is-run) ∙ ap suc (sym is-count)
 
-  below : c < 32
+  below : c < run-step-limit
   below = omega (arith, next-count, count-take-le (take n hist) r (suc p), hs .few r)
 
   pub number-fits : Fits w8 (c + 1)
   number-fits = record { fits = omega (arith, below) }
 
   module _ (j : ℕ) (ej : j ≡ c) where
-    pub number-index : r * 32 + j < 512
+    pub number-index : r * run-step-limit + j < places-size
     number-index = rw ej (omega (arith, below, small))
 
-    pub number-more : length ordinals ≡ 128 → length places ≡ 512 → length counts ≡ 16
-        → NumberedBelow (take n hist) (set ordinals p c) (set places (r * 32 + j) p) (set counts r (c + 1)) n (p + 1)
+    pub number-more : length ordinals ≡ step-limit → length places ≡ places-size → length counts ≡ run-limit
+        → NumberedBelow (take n hist) (set ordinals p c) (set places (r * run-step-limit + j) p) (set counts r (c + 1)) n (p + 1)
     number-more lo lp lc = rw ej (record {
       within = omega arith;
       ordinals-are = λ k l. ordinals-at k (below-next k p l);
@@ -75,22 +76,22 @@ module _ (hist ordinals places counts : List ℕ) (n p : ℕ) (hs : HistoryOf hi
         ordinals-at k (inl e) = rw e (getD-set-same ordinals p c 0 (omega (arith, hs .within)) ∙ is-ordinal)
         ordinals-at k (inr l) = getD-set-other ordinals p k c 0 (λ e. omega arith) ∙ w .ordinals-are k l
 
-        counts-at : (r′ : ℕ) → r′ < 16 → Dec (r′ ≡ r) → getD (set counts r (c + 1)) r′ 0 ≡ count (take (suc p) (take n hist)) r′
+        counts-at : (r′ : ℕ) → r′ < run-limit → Dec (r′ ≡ r) → getD (set counts r (c + 1)) r′ 0 ≡ count (take (suc p) (take n hist)) r′
         counts-at r′ h′ (yes e) = rw e (getD-set-same counts r (c + 1) 0 (omega (arith, small)) ∙ add-one c ∙ sym next-count)
         counts-at r′ h′ (no m) = getD-set-other counts r r′ (c + 1) 0 m ∙ w .counts-are r′ h′ ∙ sym (count-take-ne (take n hist) r′ p (λ e. m (sym e ∙ is-run)))
 
-        old : (r′ i′ : ℕ) → r′ < 16 → i′ < count (take p (take n hist)) r′ → (r′ * 32 + i′ ≡ r * 32 + c → ⊥)
-            → getD (set places (r * 32 + c) p) (r′ * 32 + i′) 0 ≡ place-of (take n hist) r′ i′
-        old r′ i′ h′ l d = getD-set-other places (r * 32 + c) (r′ * 32 + i′) p 0 d ∙ w .places-are r′ i′ h′ l
+        old : (r′ i′ : ℕ) → r′ < run-limit → i′ < count (take p (take n hist)) r′ → (r′ * run-step-limit + i′ ≡ r * run-step-limit + c → ⊥)
+            → getD (set places (r * run-step-limit + c) p) (r′ * run-step-limit + i′) 0 ≡ place-of (take n hist) r′ i′
+        old r′ i′ h′ l d = getD-set-other places (r * run-step-limit + c) (r′ * run-step-limit + i′) p 0 d ∙ w .places-are r′ i′ h′ l
 
         here : p ≡ place-of (take n hist) r c
         here = sym (ap (λ (x : ℕ). place-of (take n hist) x c) (sym is-run) ∙ ap (place-of (take n hist) (run (take n hist) p)) is-ordinal ∙ place-of-back (take n hist) p inside)
 
-        own-at : (i′ : ℕ) → (i′ ≡ c) ⊎ (i′ < c) → getD (set places (r * 32 + c) p) (r * 32 + i′) 0 ≡ place-of (take n hist) r i′
-        own-at i′ (inl e) = rw e (getD-set-same places (r * 32 + c) p 0 (omega (arith, below, small)) ∙ here)
+        own-at : (i′ : ℕ) → (i′ ≡ c) ⊎ (i′ < c) → getD (set places (r * run-step-limit + c) p) (r * run-step-limit + i′) 0 ≡ place-of (take n hist) r i′
+        own-at i′ (inl e) = rw e (getD-set-same places (r * run-step-limit + c) p 0 (omega (arith, below, small)) ∙ here)
         own-at i′ (inr l) = old r i′ small (omega (arith, is-count)) (λ e. omega arith)
 
-        places-at : (r′ i′ : ℕ) → r′ < 16 → i′ < count (take (suc p) (take n hist)) r′ → Dec (r′ ≡ r) → getD (set places (r * 32 + c) p) (r′ * 32 + i′) 0 ≡ place-of (take n hist) r′ i′
+        places-at : (r′ i′ : ℕ) → r′ < run-limit → i′ < count (take (suc p) (take n hist)) r′ → Dec (r′ ≡ r) → getD (set places (r * run-step-limit + c) p) (r′ * run-step-limit + i′) 0 ≡ place-of (take n hist) r′ i′
         places-at r′ i′ h′ l (yes e) = let l′ : i′ < count (take (suc p) (take n hist)) r = rw e at l in rw e (own-at i′ (below-next i′ c (omega (arith, next-count))))
         places-at r′ i′ h′ l (no m) =
             let l′ : i′ < count (take p (take n hist)) r′ = rw (← count-take-ne (take n hist) r′ p (λ e. m (sym e ∙ is-run))) l in

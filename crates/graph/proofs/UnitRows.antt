@@ -13,38 +13,39 @@ use Rattle.theory.specs.Relative.{InUnit}
 use Rattle.theory.specs.Graph.{FirstOf, LastOf, ArcI}
 use Rattle.theory.proofs.Places.{place-of, place-of-spec, place-of-ordinal, ordinal-lt, ordinal-mono}
 use Rattle.theory.proofs.Steps.{unit-refl, unit-sym}
-use Rattle.graph.specs.Units.{Each, Kept}
-use Rattle.graph.specs.Tables.{HistoryOf, Numbering, Counts, CutsOf, EachBy, RowRoom, RowSet, by-flag, inherited}
+use Rattle.book.specs.Format.{run-limit, run-step-limit, step-limit}
+use Rattle.graph.specs.Units.{units-size, Each, Kept}
+use Rattle.graph.specs.Tables.{places-size, run-cuts, HistoryOf, Numbering, Counts, CutsOf, EachBy, RowRoom, RowSet, by-flag, inherited}
 use Rattle.graph.proofs.UnitSteps.{first-from, last-from}
 use Rattle.graph.proofs.Counting.{low, below-next, flag-none, flag-some, hist-length, hist-run}
 
--- ---- a row of 16
+-- ---- a row, an entry for each run
 
 pub row-none : (t : List ℕ) (p : ℕ) (v : ℕ → ℕ) → RowSet t t p v 0
 row-none t p v = record { here = λ o i. absurd (low o i); others = λ k o ho n. refl }
 
-pub row-end : (t u : List ℕ) (p o : ℕ) (v : ℕ → ℕ) → RowSet t u p v o → 16 ≤ o → RowSet t u p v 16
+pub row-end : (t u : List ℕ) (p o : ℕ) (v : ℕ → ℕ) → RowSet t u p v o → run-limit ≤ o → RowSet t u p v run-limit
 row-end t u p o v w l = record { here = λ x i. w .here x (omega arith); others = w .others }
 
-row-more : (t u : List ℕ) (p o x : ℕ) (v : ℕ → ℕ) → RowSet t u p v o → o < 16 → p < 128 → length u ≡ 2048 → x ≡ v o → RowSet t (set u (p * 16 + o) x) p v (o + 1)
+row-more : (t u : List ℕ) (p o x : ℕ) (v : ℕ → ℕ) → RowSet t u p v o → o < run-limit → p < step-limit → length u ≡ units-size → x ≡ v o → RowSet t (set u (p * run-limit + o) x) p v (o + 1)
 row-more t u p o x v w i hp l e = record {
   here = λ k j. at k (below-next k o j);
-  others = λ k a ha n. getD-set-other u (p * 16 + o) (k * 16 + a) x 0 (λ z. n (omega arith)) ∙ w .others k a ha n;
+  others = λ k a ha n. getD-set-other u (p * run-limit + o) (k * run-limit + a) x 0 (λ z. n (omega arith)) ∙ w .others k a ha n;
 }
   where
-    at : (k : ℕ) → (k ≡ o) ⊎ (k < o) → getD (set u (p * 16 + o) x) (p * 16 + k) 0 ≡ v k
-    at k (inl z) = rw z (getD-set-same u (p * 16 + o) x 0 (omega arith) ∙ e)
-    at k (inr j) = getD-set-other u (p * 16 + o) (p * 16 + k) x 0 (λ z. omega arith) ∙ w .here k j
+    at : (k : ℕ) → (k ≡ o) ⊎ (k < o) → getD (set u (p * run-limit + o) x) (p * run-limit + k) 0 ≡ v k
+    at k (inl z) = rw z (getD-set-same u (p * run-limit + o) x 0 (omega arith) ∙ e)
+    at k (inr j) = getD-set-other u (p * run-limit + o) (p * run-limit + k) x 0 (λ z. omega arith) ∙ w .here k j
 
-pub own-more : (t u : List ℕ) (p o : ℕ) → RowSet t u p (λ _. p) o → o < 16 → p < 128 → length u ≡ 2048 → RowSet t (set u (p * 16 + o) p) p (λ _. p) (o + 1)
+pub own-more : (t u : List ℕ) (p o : ℕ) → RowSet t u p (λ _. p) o → o < run-limit → p < step-limit → length u ≡ units-size → RowSet t (set u (p * run-limit + o) p) p (λ _. p) (o + 1)
 own-more t u p o w i hp l = row-more t u p o p (λ _. p) w i hp l refl
 
-module _ (cuts : List ℕ) (at : ℕ) (t : List ℕ) (p from : ℕ) (u : List ℕ) (o : ℕ) (w : RowSet t u p (inherited cuts at t p from) o) (i : o < 16) (r : RowRoom at p from) (l : length u ≡ 2048) (y : List ℕ) where
-  pub inherit-same : getD cuts (at + o) 0 ≡ 0 → y ≡ set u (p * 16 + o) (getD u (from * 16 + o) 0) → RowSet t y p (inherited cuts at t p from) (o + 1)
-  inherit-same z e = rw e (row-more t u p o (getD u (from * 16 + o) 0) (inherited cuts at t p from) w i (r .to-row) l (w .others from o i (r .apart) ∙ sym (flag-none (getD cuts (at + o) 0) (getD t (from * 16 + o) 0) p z)))
+module _ (cuts : List ℕ) (at : ℕ) (t : List ℕ) (p from : ℕ) (u : List ℕ) (o : ℕ) (w : RowSet t u p (inherited cuts at t p from) o) (i : o < run-limit) (r : RowRoom at p from) (l : length u ≡ units-size) (y : List ℕ) where
+  pub inherit-same : getD cuts (at + o) 0 ≡ 0 → y ≡ set u (p * run-limit + o) (getD u (from * run-limit + o) 0) → RowSet t y p (inherited cuts at t p from) (o + 1)
+  inherit-same z e = rw e (row-more t u p o (getD u (from * run-limit + o) 0) (inherited cuts at t p from) w i (r .to-row) l (w .others from o i (r .apart) ∙ sym (flag-none (getD cuts (at + o) 0) (getD t (from * run-limit + o) 0) p z)))
 
-  pub inherit-own : (getD cuts (at + o) 0 ≡ 0 → ⊥) → y ≡ set u (p * 16 + o) p → RowSet t y p (inherited cuts at t p from) (o + 1)
-  inherit-own n e = rw e (row-more t u p o p (inherited cuts at t p from) w i (r .to-row) l (sym (flag-some (getD cuts (at + o) 0) (getD t (from * 16 + o) 0) p n)))
+  pub inherit-own : (getD cuts (at + o) 0 ≡ 0 → ⊥) → y ≡ set u (p * run-limit + o) p → RowSet t y p (inherited cuts at t p from) (o + 1)
+  inherit-own n e = rw e (row-more t u p o p (inherited cuts at t p from) w i (r .to-row) l (sym (flag-some (getD cuts (at + o) 0) (getD t (from * run-limit + o) 0) p n)))
 
 -- ---- a table filled row by row
 
@@ -54,34 +55,34 @@ each-none k t = record { at = λ p o a b. absurd (over p a b) }
     over : (p : ℕ) → k ≤ p → p < k → ⊥
     over p a b = omega arith
 
-module _ {E : ℕ → ℕ → ℕ → Type 0} {a b p : ℕ} {t u : List ℕ} {v : ℕ → ℕ} (w : Each E a b t) (r : RowSet t u p v 16) (e : (o : ℕ) → o < 16 → E o p (v o)) where
-  other-row : (k o : ℕ) → a ≤ k → k < b → o < 16 → k ≢ p → E o k (getD u (k * 16 + o) 0)
+module _ {E : ℕ → ℕ → ℕ → Type 0} {a b p : ℕ} {t u : List ℕ} {v : ℕ → ℕ} (w : Each E a b t) (r : RowSet t u p v run-limit) (e : (o : ℕ) → o < run-limit → E o p (v o)) where
+  other-row : (k o : ℕ) → a ≤ k → k < b → o < run-limit → k ≢ p → E o k (getD u (k * run-limit + o) 0)
   other-row k o ha hb ho n = rw (r .others k o ho n) (w .at k o ha hb ho)
 
-  row-here : (k o : ℕ) → o < 16 → k ≡ p → E o k (getD u (k * 16 + o) 0)
+  row-here : (k o : ℕ) → o < run-limit → k ≡ p → E o k (getD u (k * run-limit + o) 0)
   row-here k o ho z = rw (z, r .here o ho) (e o ho)
 
   each-up : p ≡ b → Each E a (b + 1) u
   each-up z = record { at = λ k o ha hb ho. go k o ha ho (below-next k b hb) }
     where
-      go : (k o : ℕ) → a ≤ k → o < 16 → (k ≡ b) ⊎ (k < b) → E o k (getD u (k * 16 + o) 0)
+      go : (k o : ℕ) → a ≤ k → o < run-limit → (k ≡ b) ⊎ (k < b) → E o k (getD u (k * run-limit + o) 0)
       go k o ha ho (inl y) = row-here k o ho (y ∙ sym z)
       go k o ha ho (inr l) = other-row k o ha l ho (λ y. omega arith)
 
   each-down : 0 < a → p ≡ a - 1 → Each E (a - 1) b u
   each-down q z = record { at = λ k o ha hb ho. go k o ha hb ho (ℕ-discrete k p) }
     where
-      go : (k o : ℕ) → a - 1 ≤ k → k < b → o < 16 → Dec (k ≡ p) → E o k (getD u (k * 16 + o) 0)
+      go : (k o : ℕ) → a - 1 ≤ k → k < b → o < run-limit → Dec (k ≡ p) → E o k (getD u (k * run-limit + o) 0)
       go k o ha hb ho (yes y) = row-here k o ho y
       go k o ha hb ho (no n) = other-row k o (omega arith) hb ho n
 
 pub kept-none : (n : ℕ) (t : List ℕ) → Kept n t t
 kept-none n t = record { at = λ p o l ho. refl }
 
-pub kept-row : (n p : ℕ) (t u v y : List ℕ) (w : ℕ → ℕ) → Kept n t u → p < n → RowSet u v p w 16 → y ≡ v → Kept n t y
+pub kept-row : (n p : ℕ) (t u v y : List ℕ) (w : ℕ → ℕ) → Kept n t u → p < n → RowSet u v p w run-limit → y ≡ v → Kept n t y
 kept-row n p t u v y w k i r e = rw e (record { at = λ a o l ho. r .others a o ho (λ z. omega arith) ∙ k .at a o l ho })
 
-pub kept-down : (n p : ℕ) (t u v : List ℕ) (w : ℕ → ℕ) → Kept n t u → 0 < p → p ≤ n → RowSet u v (p - 1) w 16 → Kept n t v
+pub kept-down : (n p : ℕ) (t u v : List ℕ) (w : ℕ → ℕ) → Kept n t u → 0 < p → p ≤ n → RowSet u v (p - 1) w run-limit → Kept n t v
 kept-down n p t u v w k pos i r = kept-row n (p - 1) t u v v w k (omega arith) r refl
 
 -- ---- neighbours
@@ -97,7 +98,7 @@ next-step h a b ia ib e n = record { before = lt-of-not-le back; inside = ib; ru
         go (yes z) = let o : ordinal h b ≡ suc (ordinal h b) = rw z at n in omega arith
         go (no z) = omega (arith, ordinal-mono h b a (omega arith) ia (sym e))
 
-module _ (unit : ℕ → ℕ → ℕ → ℕ) (cuts : List ℕ) (cs : CutsOf unit cuts) (h : List ℕ) (o : ℕ) (ho : o < 16) where
+module _ (unit : ℕ → ℕ → ℕ → ℕ) (cuts : List ℕ) (cs : CutsOf unit cuts) (h : List ℕ) (o : ℕ) (ho : o < run-limit) where
   -- a step with none of its unit before, or behind it
   first-alone : (p : ℕ) → p < length h → ((k : ℕ) → k < p → InUnit unit h o p k → ⊥) → FirstOf unit h o p p
   first-alone p i f = record { inside = i; member = unit-refl unit; first = λ k j u. at k u (decLt k p) }
@@ -114,9 +115,9 @@ module _ (unit : ℕ → ℕ → ℕ → ℕ) (cuts : List ℕ) (cs : CutsOf uni
       at k j u (no n) = omega arith
 
   -- q and p are next to each other
-  module _ (q p : ℕ) (a : ArcI h q p) (few : ordinal h p < 32) where
+  module _ (q p : ℕ) (a : ArcI h q p) (few : ordinal h p < run-step-limit) where
     abbrev cut-at : ℕ
-    cut-at = getD cuts (run h p * 512 + ordinal h p * 16 + o) 0
+    cut-at = getD cuts (run h p * run-cuts + ordinal h p * run-limit + o) 0
 
     one-unit : cut-at ≡ 0 → InUnit unit h o p q
     one-unit z = record { runs = a .runs; units = rw (a .next) (sym (cs .uncut (run h p) o (ordinal h q) ho (rw (← a .next) few) (rw (a .next) at z))) }
@@ -191,14 +192,14 @@ module _ (hist ordinals places : List ℕ) (n : ℕ) (hs : HistoryOf hist n) (nb
     is-ordinal : ordinal (take n hist) p ≡ i
     is-ordinal = sym (ei ∙ nb .ordinals-are p inside)
 
-    small : r < 16
+    small : r < run-limit
     small = rw er (hs .runs .small p)
 
     below : i < count (take n hist) r
     below = let b : ordinal (take n hist) p < count (take n hist) r = rw is-run at (ordinal-lt (take n hist) p inside) in omega (arith, is-ordinal)
 
     -- the place of step m of the run
-    module _ (m q : ℕ) (im : m < count (take n hist) r) (eq : q ≡ getD places (r * 32 + m) 0) where
+    module _ (m q : ℕ) (im : m < count (take n hist) r) (eq : q ≡ getD places (r * run-step-limit + m) 0) where
       is-place : q ≡ place-of (take n hist) r m
       is-place = eq ∙ nb .places-are r m small im
 
@@ -213,25 +214,25 @@ module _ (hist ordinals places : List ℕ) (n : ℕ) (hs : HistoryOf hist n) (nb
 
   -- upwards: the step before p
   module _ (p r i : ℕ) (ip : p < n) (er : r ≡ getD hist p 0) (ei : i ≡ getD ordinals p 0) where
-    pub firsts-own : (cuts t u y : List ℕ) → i ≡ 0 → EachBy FirstOf cuts (take n hist) 0 p t → RowSet t u p (λ _. p) 16 → y ≡ u → EachBy FirstOf cuts (take n hist) 0 (p + 1) y
+    pub firsts-own : (cuts t u y : List ℕ) → i ≡ 0 → EachBy FirstOf cuts (take n hist) 0 p t → RowSet t u p (λ _. p) run-limit → y ≡ u → EachBy FirstOf cuts (take n hist) 0 (p + 1) y
     firsts-own cuts t u y z w g e = rw e (record { of = λ unit cs. each-up (w .of unit cs) g (λ o ho. first-zero unit cuts cs (take n hist) o ho p (inside p r i ip er ei) (is-ordinal p r i ip er ei ∙ z)) refl })
 
     module _ (ni : i ≡ 0 → ⊥) where
-      pub first-index : r * 32 + i - 1 < 512
+      pub first-index : r * run-step-limit + i - 1 < places-size
       first-index = omega (arith, small p r i ip er ei, below p r i ip er ei, hs .few r)
 
-      module _ (from : ℕ) (ef : from ≡ getD places (r * 32 + i - 1) 0) where
+      module _ (from : ℕ) (ef : from ≡ getD places (r * run-step-limit + i - 1) 0) where
         im : i - 1 < count (take n hist) r
         im = omega (arith, below p r i ip er ei)
 
-        ef′ : from ≡ getD places (r * 32 + (i - 1)) 0
-        ef′ = let e : r * 32 + i - 1 ≡ r * 32 + (i - 1) = omega arith in ef ∙ ap (λ (x : ℕ). getD places x 0) e
+        ef′ : from ≡ getD places (r * run-step-limit + (i - 1)) 0
+        ef′ = let e : r * run-step-limit + i - 1 ≡ r * run-step-limit + (i - 1) = omega arith in ef ∙ ap (λ (x : ℕ). getD places x 0) e
 
         arc : ArcI (take n hist) from p
         arc = next-step (take n hist) from p (q-inside p r i ip er ei (i - 1) from im ef′) (inside p r i ip er ei) (q-run p r i ip er ei (i - 1) from im ef′)
             (omega (arith, is-ordinal p r i ip er ei, q-ordinal p r i ip er ei (i - 1) from im ef′))
 
-        pub first-rows : RowRoom (r * 512 + i * 16) p from
+        pub first-rows : RowRoom (r * run-cuts + i * run-limit) p from
         first-rows = record {
           flags = omega (arith, small p r i ip er ei, below p r i ip er ei, hs .few r);
           to-row = omega (arith, hs .within);
@@ -239,12 +240,12 @@ module _ (hist ordinals places : List ℕ) (n : ℕ) (hs : HistoryOf hist n) (nb
           apart = λ e. omega (arith, arc .before);
         }
 
-        pub firsts-inherit : (cuts t u y : List ℕ) → EachBy FirstOf cuts (take n hist) 0 p t → RowSet t u p (inherited cuts (r * 512 + i * 16) t p from) 16 → y ≡ u → EachBy FirstOf cuts (take n hist) 0 (p + 1) y
+        pub firsts-inherit : (cuts t u y : List ℕ) → EachBy FirstOf cuts (take n hist) 0 p t → RowSet t u p (inherited cuts (r * run-cuts + i * run-limit) t p from) run-limit → y ≡ u → EachBy FirstOf cuts (take n hist) 0 (p + 1) y
         firsts-inherit cuts t u y w g e = rw e (record { of = λ unit cs. each-up (w .of unit cs) g (row unit cs) refl })
           where
-            row : (unit : ℕ → ℕ → ℕ → ℕ) → CutsOf unit cuts → (o : ℕ) → o < 16 → FirstOf unit (take n hist) o p (inherited cuts (r * 512 + i * 16) t p from o)
+            row : (unit : ℕ → ℕ → ℕ → ℕ) → CutsOf unit cuts → (o : ℕ) → o < run-limit → FirstOf unit (take n hist) o p (inherited cuts (r * run-cuts + i * run-limit) t p from o)
             row unit cs o ho = rw (is-run p r i ip er ei, is-ordinal p r i ip er ei) at
-                (first-next unit cuts cs (take n hist) o ho from p arc (omega (arith, is-ordinal p r i ip er ei, below p r i ip er ei, hs .few r)) (getD t (from * 16 + o) 0)
+                (first-next unit cuts cs (take n hist) o ho from p arc (omega (arith, is-ordinal p r i ip er ei, below p r i ip er ei, hs .few r)) (getD t (from * run-limit + o) 0)
                 (w .of unit cs .at from o (omega arith) (arc .before) ho))
 
   -- downwards: the step after p
@@ -255,17 +256,17 @@ module _ (hist ordinals places : List ℕ) (n : ℕ) (hs : HistoryOf hist n) (nb
     is-count : c ≡ count (take n hist) r
     is-count = ec ∙ cn .are r (small (p - 1) r i jp er ei)
 
-    pub lasts-own : (cuts t u : List ℕ) → c ≤ i + 1 → EachBy LastOf cuts (take n hist) p n t → RowSet t u (p - 1) (λ _. p - 1) 16 → EachBy LastOf cuts (take n hist) (p - 1) n u
+    pub lasts-own : (cuts t u : List ℕ) → c ≤ i + 1 → EachBy LastOf cuts (take n hist) p n t → RowSet t u (p - 1) (λ _. p - 1) run-limit → EachBy LastOf cuts (take n hist) (p - 1) n u
     lasts-own cuts t u z w g = record { of = λ unit cs. each-down (w .of unit cs) g (λ o ho. last-end unit cuts cs (take n hist) o ho (p - 1) (inside (p - 1) r i jp er ei) ended) pos refl }
       where
         ended : count (take n hist) (run (take n hist) (p - 1)) ≤ ordinal (take n hist) (p - 1) + 1
         ended = rw (is-run (p - 1) r i jp er ei) (omega (arith, is-count, is-ordinal (p - 1) r i jp er ei))
 
     module _ (more : i + 1 < c) where
-      pub last-index : r * 32 + (i + 1) < 512
+      pub last-index : r * run-step-limit + (i + 1) < places-size
       last-index = omega (arith, small (p - 1) r i jp er ei, is-count, hs .few r)
 
-      module _ (from : ℕ) (ef : from ≡ getD places (r * 32 + (i + 1)) 0) where
+      module _ (from : ℕ) (ef : from ≡ getD places (r * run-step-limit + (i + 1)) 0) where
         in-run : i + 1 < count (take n hist) r
         in-run = omega (arith, is-count)
 
@@ -281,7 +282,7 @@ module _ (hist ordinals places : List ℕ) (n : ℕ) (hs : HistoryOf hist n) (nb
         after : ArcI (take n hist) (p - 1) from
         after = next-step (take n hist) (p - 1) from (inside (p - 1) r i jp er ei) f-inside (sym f-run) (omega (arith, is-ordinal (p - 1) r i jp er ei, f-ordinal))
 
-        pub last-rows : RowRoom (r * 512 + (i + 1) * 16) (p - 1) from
+        pub last-rows : RowRoom (r * run-cuts + (i + 1) * run-limit) (p - 1) from
         last-rows = record {
           flags = omega (arith, small (p - 1) r i jp er ei, is-count, hs .few r);
           to-row = omega (arith, hs .within);
@@ -289,10 +290,10 @@ module _ (hist ordinals places : List ℕ) (n : ℕ) (hs : HistoryOf hist n) (nb
           apart = λ e. omega (arith, after .before);
         }
 
-        pub lasts-inherit : (cuts t u : List ℕ) → EachBy LastOf cuts (take n hist) p n t → RowSet t u (p - 1) (inherited cuts (r * 512 + (i + 1) * 16) t (p - 1) from) 16 → EachBy LastOf cuts (take n hist) (p - 1) n u
+        pub lasts-inherit : (cuts t u : List ℕ) → EachBy LastOf cuts (take n hist) p n t → RowSet t u (p - 1) (inherited cuts (r * run-cuts + (i + 1) * run-limit) t (p - 1) from) run-limit → EachBy LastOf cuts (take n hist) (p - 1) n u
         lasts-inherit cuts t u w g = record { of = λ unit cs. each-down (w .of unit cs) g (row unit cs) pos refl }
           where
-            row : (unit : ℕ → ℕ → ℕ → ℕ) → CutsOf unit cuts → (o : ℕ) → o < 16 → LastOf unit (take n hist) o (p - 1) (inherited cuts (r * 512 + (i + 1) * 16) t (p - 1) from o)
+            row : (unit : ℕ → ℕ → ℕ → ℕ) → CutsOf unit cuts → (o : ℕ) → o < run-limit → LastOf unit (take n hist) o (p - 1) (inherited cuts (r * run-cuts + (i + 1) * run-limit) t (p - 1) from o)
             row unit cs o ho = rw (f-run ∙ is-run (p - 1) r i jp er ei, f-ordinal) at
-                (last-next unit cuts cs (take n hist) o ho (p - 1) from after (omega (arith, f-ordinal, in-run, hs .few r)) (getD t (from * 16 + o) 0)
+                (last-next unit cuts cs (take n hist) o ho (p - 1) from after (omega (arith, f-ordinal, in-run, hs .few r)) (getD t (from * run-limit + o) 0)
                 (w .of unit cs .at from o (omega (arith, after .before)) (omega (arith, f-inside, hist-length hs)) ho))

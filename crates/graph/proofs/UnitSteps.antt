@@ -49,22 +49,6 @@ module _ (conflict : ℕ → ℕ → ℕ → ℕ → Bool) (h : List ℕ) where
       go (yes z) = rw z d
       go (no n) = dep-trans (own-depends a b (omega arith) (omega (arith, dep-lt conflict d, dep-inside conflict d)) e) d
 
-  -- what depends on q in a run is the rest of the run from some step on
-  pub depends-later : (q a b : ℕ) → a ≤ b → b < length h → run h a ≡ run h b → Depends conflict h q a → Depends conflict h q b
-  depends-later q a b l i e d = go (ℕ-discrete a b)
-    where
-      go : Dec (a ≡ b) → Depends conflict h q b
-      go (yes z) = rw z at d
-      go (no n) = dep-trans d (own-depends a b (omega arith) i e)
-
-  -- q depends on some step of a unit exactly when it depends on the unit's first
-  pub depends-first : (unit : ℕ → ℕ → ℕ → ℕ) (o p f k q : ℕ) → FirstOf unit h o p f → InUnit unit h o p k → Depends conflict h k q → Depends conflict h f q
-  depends-first unit o p f k q w u d = depends-earlier f k q (w .first k (omega (arith, dep-lt conflict d, dep-inside conflict d)) u) (w .member .runs ∙ sym (u .runs)) d
-
-  -- some step of a unit depends on q exactly when the unit's last does
-  pub depends-last : (unit : ℕ → ℕ → ℕ → ℕ) (o p f k q : ℕ) → LastOf unit h o p f → InUnit unit h o p k → Depends conflict h q k → Depends conflict h q f
-  depends-last unit o p f k q w u d = depends-later q k f (w .last k (dep-inside conflict d) u) (w .inside) (u .runs ∙ sym (w .member .runs)) d
-
   -- l is the last place of run r that q depends on
   pub record LastSource (r q l : ℕ) : Type 0 where
     pub runs : run h l ≡ r

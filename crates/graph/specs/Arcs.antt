@@ -9,6 +9,7 @@ use Rattle.bits.specs.Table.{row-bits, rows, bit-at}
 use Rattle.theory.specs.History.{run}
 use Rattle.theory.specs.Relative.{Depends}
 use Rattle.theory.specs.Graph.{FirstOf, LastOf, ArcI, ArcD, Arc}
+use Rattle.book.specs.Format.{run-limit}
 use Rattle.graph.specs.Marks.{Marks}
 use Rattle.graph.specs.Units.{Firsts, Lasts}
 use Rattle.graph.specs.Tables.{HistoryOf}
@@ -73,8 +74,8 @@ pub record ArcInput (hist : List ℕ) (n : ℕ) (dep firsts lasts mask : List �
   pub history : HistoryOf hist n
   pub tables : TablesOf (take n hist) dep firsts lasts
   pub mask-is : Mask (take n hist) n r mask
-  pub small : r < 16
+  pub small : r < run-limit
 
 -- the rows of the places below n hold places
 pub record Rowed (n : ℕ) (t : List ℕ) : Type 0 where
-  pub small : (p o : ℕ) → p < n → o < 16 → getD t (p * 16 + o) 0 < rows
+  pub small : (p o : ℕ) → p < n → o < run-limit → getD t (p * run-limit + o) 0 < rows

@@ -5,30 +5,34 @@ use mathlib.Core.Logic.{_⊎_, _≢_}
 use mathlib.Core.Bool.{Bool, true, false}
 use mathlib.Core.List.{List}
 use lib.ListN.{length, getD, take}
-use Rattle.book.specs.Format.{sum}
+use Rattle.book.specs.Format.{kind-limit, run-limit, run-step-limit, step-limit, sum}
+use Rattle.book.specs.Book.{cuts-size}
 use Rattle.theory.specs.History.{count, run, ordinal}
 use Rattle.theory.proofs.Places.{place-of}
 use Rattle.bits.specs.Table.{bit-at}
 use Rattle.graph.specs.Units.{Each}
 
--- a test says whether P holds
-pub record Says (P : Type 0) (answer : Bool) : Type 0 where
-  pub sound : answer ≡ true → P
-  pub complete : P → answer ≡ true
+-- the size of a table of a place for each step, by run and ordinal
+abbrev pub places-size : ℕ
+places-size = run-limit * run-step-limit
+
+-- how many entries a table of cuts has of each run
+abbrev pub run-cuts : ℕ
+run-cuts = run-step-limit * run-limit
 
 pub record Small (m : ℕ) (l : List ℕ) : Type 0 where
   pub small : (i : ℕ) → getD l i 0 < m
 
--- the first n of hist are the run numbers of a history in which no run has more than 32 steps
+-- the first n of hist are the run numbers of a history in which no run has more than run-step-limit steps
 pub record HistoryOf (hist : List ℕ) (n : ℕ) : Type 0 where
-  pub long : length hist ≡ 128
-  pub within : n ≤ 128
-  pub runs : Small 16 hist
-  pub few : (r : ℕ) → count (take n hist) r ≤ 32
+  pub long : length hist ≡ step-limit
+  pub within : n ≤ step-limit
+  pub runs : Small run-limit hist
+  pub few : (r : ℕ) → count (take n hist) r ≤ run-step-limit
 
 -- the runs of the first n places are below m
 pub record Declared (hist : List ℕ) (n m : ℕ) : Type 0 where
-  pub few : m ≤ 16
+  pub few : m ≤ run-limit
   pub declared : (p : ℕ) → p < n → getD hist p 0 < m
 
 -- r stands at index i of t, and is below m
@@ -40,11 +44,11 @@ pub record NumberAt (t : List ℕ) (i m r : ℕ) : Type 0 where
 
 -- run r's steps begin where the steps of the runs before it end
 pub record Starts (lens starts : List ℕ) : Type 0 where
-  pub are : (r : ℕ) → r < 16 → getD starts r 0 ≡ sum (take r lens)
+  pub are : (r : ℕ) → r < run-limit → getD starts r 0 ≡ sum (take r lens)
 
--- the steps of h, of which run r's begin at starts r, are among 128
+-- the steps of h, of which run r's begin at starts r, are among step-limit
 pub record Room (h starts : List ℕ) : Type 0 where
-  pub room : (r i : ℕ) → r < 16 → i < count h r → getD starts r 0 + i < 128
+  pub room : (r i : ℕ) → r < run-limit → i < count h r → getD starts r 0 + i < step-limit
 
 -- at the place of a step stands in t what stands of the step in values
 pub record ByPlace (h starts values t : List ℕ) (n : ℕ) : Type 0 where
@@ -53,14 +57,14 @@ pub record ByPlace (h starts values t : List ℕ) (n : ℕ) : Type 0 where
 pub record StepsByPlace (h starts kinds positions kinds′ positions′ : List ℕ) (n : ℕ) : Type 0 where
   pub kinds-at : ByPlace h starts kinds kinds′ n
   pub positions-at : ByPlace h starts positions positions′ n
-  pub small : Small 16 kinds′
+  pub small : Small kind-limit kinds′
 
 -- what a direct dependence of q on an earlier place p asks, of kinds and positions by place
 abbrev pub Link : List ℕ → List ℕ → List ℕ → List ℕ → ℕ → ℕ → Type 0
 Link hist kinds positions pairs p q =
     (getD hist p 0 ≡ getD hist q 0)
     ⊎ ((getD positions p 0 ≡ getD positions q 0)
-    × ((getD pairs (getD kinds p 0 * 16 + getD kinds q 0) 0 ≢ 0) ⊎ (getD pairs (getD kinds q 0 * 16 + getD kinds p 0) 0 ≢ 0)))
+    × ((getD pairs (getD kinds p 0 * kind-limit + getD kinds q 0) 0 ≢ 0) ⊎ (getD pairs (getD kinds q 0 * kind-limit + getD kinds p 0) 0 ≢ 0)))
 
 -- q is linked to p, and the table t does not yet tell that it depends on it
 pub record Fresh (L : ℕ → ℕ → Type 0) (t : List ℕ) (p q : ℕ) (answer : Bool) : Type 0 where
@@ -72,32 +76,32 @@ pub record Fresh (L : ℕ → ℕ → Type 0) (t : List ℕ) (p q : ℕ) (answer
 -- each place's ordinal, and each step's place
 pub record Numbering (h ordinals places : List ℕ) : Type 0 where
   pub ordinals-are : (p : ℕ) → p < length h → getD ordinals p 0 ≡ ordinal h p
-  pub places-are : (r i : ℕ) → r < 16 → i < count h r → getD places (r * 32 + i) 0 ≡ place-of h r i
+  pub places-are : (r i : ℕ) → r < run-limit → i < count h r → getD places (r * run-step-limit + i) 0 ≡ place-of h r i
 
 pub record Counts (h counts : List ℕ) : Type 0 where
-  pub are : (r : ℕ) → r < 16 → getD counts r 0 ≡ count h r
+  pub are : (r : ℕ) → r < run-limit → getD counts r 0 ≡ count h r
 
 -- the flags of the cuts divide the runs into these units
 pub record CutsOf (unit : ℕ → ℕ → ℕ → ℕ) (cuts : List ℕ) : Type 0 where
   pub rises : (r o i j : ℕ) → i ≤ j → unit r o i ≤ unit r o j
-  pub uncut : (r o i : ℕ) → o < 16 → suc i < 32 → getD cuts (r * 512 + suc i * 16 + o) 0 ≡ 0 → unit r o (suc i) ≡ unit r o i
-  pub cut : (r o i : ℕ) → o < 16 → suc i < 32 → getD cuts (r * 512 + suc i * 16 + o) 0 ≢ 0 → unit r o i < unit r o (suc i)
+  pub uncut : (r o i : ℕ) → o < run-limit → suc i < run-step-limit → getD cuts (r * run-cuts + suc i * run-limit + o) 0 ≡ 0 → unit r o (suc i) ≡ unit r o i
+  pub cut : (r o i : ℕ) → o < run-limit → suc i < run-step-limit → getD cuts (r * run-cuts + suc i * run-limit + o) 0 ≢ 0 → unit r o i < unit r o (suc i)
 
 -- each place of `from` up to `to` has its entries in t, for any units that the flags make
 pub record EachBy (E : (ℕ → ℕ → ℕ → ℕ) → List ℕ → ℕ → ℕ → ℕ → Type 0) (cuts h : List ℕ) (from to : ℕ) (t : List ℕ) : Type 0 where
   pub of : (unit : ℕ → ℕ → ℕ → ℕ) → CutsOf unit cuts → Each (E unit h) from to t
 
--- where a row of 16 flags, and the rows of two places, stand
+-- where a row of flags, one for each run, and the rows of two places, stand
 pub record RowRoom (at p from : ℕ) : Type 0 where
-  pub flags : at + 16 ≤ 8192
-  pub to-row : p < 128
-  pub from-row : from < 128
+  pub flags : at + run-limit ≤ cuts-size
+  pub to-row : p < step-limit
+  pub from-row : from < step-limit
   pub apart : from ≢ p
 
 -- the first m of u's row p are v, and its other rows are t's
 pub record RowSet (t u : List ℕ) (p : ℕ) (v : ℕ → ℕ) (m : ℕ) : Type 0 where
-  pub here : (o : ℕ) → o < m → getD u (p * 16 + o) 0 ≡ v o
-  pub others : (k o : ℕ) → o < 16 → k ≢ p → getD u (k * 16 + o) 0 ≡ getD t (k * 16 + o) 0
+  pub here : (o : ℕ) → o < m → getD u (p * run-limit + o) 0 ≡ v o
+  pub others : (k o : ℕ) → o < run-limit → k ≢ p → getD u (k * run-limit + o) 0 ≡ getD t (k * run-limit + o) 0
 
 -- a where there is no flag, b where there is one
 abbrev pub by-flag : ℕ → ℕ → ℕ → ℕ
@@ -106,4 +110,4 @@ by-flag (suc n) a b = b
 
 -- of each run o, what stands in t at `from`, or p where there is a cut
 abbrev pub inherited : List ℕ → ℕ → List ℕ → ℕ → ℕ → ℕ → ℕ
-inherited cuts at t p from o = by-flag (getD cuts (at + o) 0) (getD t (from * 16 + o) 0) p
+inherited cuts at t p from o = by-flag (getD cuts (at + o) 0) (getD t (from * run-limit + o) 0) p

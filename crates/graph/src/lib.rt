@@ -9,20 +9,30 @@ ghost use Prim.Native.Nat.{_+_, _*_, _<_, _≤_};
 ghost use lib.ListN.{length, take};
 ghost use Rattle.theory.specs.Relative.{Depends};
 ghost use Rattle.theory.specs.Graph.{FirstOf, LastOf, Arc};
-ghost use Rattle.book.specs.Format.{sum};
+ghost use Rattle.book.specs.Format.{kind-limit, run-limit, step-limit, sum};
 ghost use Rattle.book.specs.Book.{Valid, contents-of};
 ghost use Rattle.book.specs.Meaning.{conflict-of, unit-of};
+ghost use Rattle.graph.specs.Answers.{Answers};
 ghost use Rattle.graph.specs.Marks.{Marks};
-ghost use Rattle.graph.specs.Units.{Kept, UnitTables};
+ghost use Rattle.graph.specs.Units.{units-size, Kept, UnitTables};
 ghost use Rattle.graph.specs.Dependence.{StepsRead, StepRead};
-ghost use Rattle.graph.specs.Tables.{Says, Small, HistoryOf, Declared, NumberAt, Starts, Room, StepsByPlace, Link, Fresh};
+ghost use Rattle.graph.specs.Tables.{places-size, Small, HistoryOf, Declared, NumberAt, Starts, Room, StepsByPlace, Link, Fresh};
 ghost use Rattle.graph.specs.Tables.{Numbering, Counts, EachBy, RowRoom, RowSet, inherited};
 ghost use Rattle.graph.specs.Arcs.{ArcBy, ArcByPlaces, InRun, TablesOf, GainedBy, ArcRows, ArcInput, Rowed};
 ghost use Rattle.bits.specs.Table.{bit-at, intersection};
 ghost use Rattle.bits.specs.Last.{LastAt};
 
-// For each place p and each run o a place, at p * 16 + o.
-pub type Units = [u8; 2048];
+// The size of a table of a place for each place and each run.
+pub const UNITS_SIZE: usize = Book::STEPS * Book::RUNS;
+
+// For each place p and each run o a place, at p * Book::RUNS + o.
+pub type Units = [u8; UNITS_SIZE];
+
+// The size of a table of a place for each step, of run r and ordinal i at r * Book::RUN_STEPS + i.
+const PLACES_SIZE: usize = Book::RUNS * Book::RUN_STEPS;
+
+// How many entries a book's table of cuts has of each run.
+const RUN_CUTS: usize = Book::RUN_STEPS * Book::RUNS;
 
 fn wide(x: u8) -> usize
     ensures { λ r. ⌜ (r ≡ x) × (r < 256) ⌝ }
@@ -31,42 +41,42 @@ fn wide(x: u8) -> usize
 }
 
 // These do nothing: what owning an array tells of its length, told to a function that has it by `&mut`.
-fn sized_by_run(t: [u8; 16])
-    ensures { λ r. ⌜ length t ≡ 16 ⌝ }
+fn sized_by_run(t: [u8; Book::RUNS])
+    ensures { λ r. ⌜ length t ≡ run-limit ⌝ }
 {}
 
-fn sized_by_place(t: [u8; 128])
-    ensures { λ r. ⌜ length t ≡ 128 ⌝ }
+fn sized_by_place(t: [u8; Book::STEPS])
+    ensures { λ r. ⌜ length t ≡ step-limit ⌝ }
 {}
 
-fn sized_positions(t: [u16; 128])
-    ensures { λ r. ⌜ length t ≡ 128 ⌝ }
+fn sized_positions(t: [u16; Book::STEPS])
+    ensures { λ r. ⌜ length t ≡ step-limit ⌝ }
 {}
 
-fn sized_by_step(t: [u8; 512])
-    ensures { λ r. ⌜ length t ≡ 512 ⌝ }
+fn sized_by_step(t: [u8; PLACES_SIZE])
+    ensures { λ r. ⌜ length t ≡ places-size ⌝ }
 {}
 
 fn sized_units(t: Units)
-    ensures { λ r. ⌜ length t ≡ 2048 ⌝ }
+    ensures { λ r. ⌜ length t ≡ units-size ⌝ }
 {}
 
 // What a table of runs or of kinds has of place p.
-fn number_at(t: &[u8; 128], p: usize) -> usize
-    requires { ⌜ (p < 128) × Small 16 (now t) ⌝ }
-    ensures { λ r. ⌜ NumberAt (now (t .entry)) p 16 r ⌝ }
+fn number_at(t: &[u8; Book::STEPS], p: usize) -> usize
+    requires { ⌜ (p < step-limit) × Small run-limit (now t) ⌝ }
+    ensures { λ r. ⌜ NumberAt (now (t .entry)) p run-limit r ⌝ }
 {
     wide(t[p])
 }
 
 // Where each run's steps begin among the book's steps.
-fn starts(lens: &[u8; 16], t: &mut [u8; 16])
-    requires { ⌜ sum (now lens) ≤ 128 ⌝ }
+fn starts(lens: &[u8; Book::RUNS], t: &mut [u8; Book::RUNS])
+    requires { ⌜ sum (now lens) ≤ step-limit ⌝ }
     ensures { λ r. ⌜ Starts (now (lens .entry)) (now (t .exit)) ⌝ }
 {
     let mut s: u8 = 0;
     let mut r = 0;
-    while r < 16 {
+    while r < Book::RUNS {
         sized_by_run(*t);
         t[r] = s;
         s = s + lens[r];
@@ -76,15 +86,15 @@ fn starts(lens: &[u8; 16], t: &mut [u8; 16])
 
 // The kind and the position of each place's step. `next` has the next step of each run.
 fn by_place(
-    hist: &[u8; 128],
+    hist: &[u8; Book::STEPS],
     n: usize,
-    kinds: &[u8; 128],
-    positions: &[u16; 128],
-    next: &mut [u8; 16],
-    kinds_at: &mut [u8; 128],
-    positions_at: &mut [u16; 128],
+    kinds: &[u8; Book::STEPS],
+    positions: &[u16; Book::STEPS],
+    next: &mut [u8; Book::RUNS],
+    kinds_at: &mut [u8; Book::STEPS],
+    positions_at: &mut [u16; Book::STEPS],
 )
-    requires { ⌜ HistoryOf (now hist) n × Room (take n (now hist)) (now next) × Small 16 (now kinds) × Small 16 (now «kinds_at») ⌝ }
+    requires { ⌜ HistoryOf (now hist) n × Room (take n (now hist)) (now next) × Small kind-limit (now kinds) × Small kind-limit (now «kinds_at») ⌝ }
     ensures { λ r. ⌜ StepsByPlace (take n (now (hist .entry))) (now (next .entry)) (now (kinds .entry)) (now (positions .entry)) (now («kinds_at» .exit)) (now («positions_at» .exit)) n ⌝ }
 {
     let mut p = 0;
@@ -104,15 +114,15 @@ fn by_place(
 
 // Whether place q is linked to p: of one run, or at one position with kinds that are a listed pair.
 fn linked(
-    hist: &[u8; 128],
-    kinds: &[u8; 128],
-    positions: &[u16; 128],
-    pairs: &[u8; 256],
+    hist: &[u8; Book::STEPS],
+    kinds: &[u8; Book::STEPS],
+    positions: &[u16; Book::STEPS],
+    pairs: &[u8; Book::PAIRS_SIZE],
     p: usize,
     q: usize,
 ) -> bool
-    requires { ⌜ (p < 128) × (q < 128) × Small 16 (now kinds) ⌝ }
-    ensures { λ r. ⌜ Says (Link (now (hist .entry)) (now (kinds .entry)) (now (positions .entry)) (now (pairs .entry)) p q) r ⌝ }
+    requires { ⌜ (p < step-limit) × (q < step-limit) × Small kind-limit (now kinds) ⌝ }
+    ensures { λ r. ⌜ Answers (Link (now (hist .entry)) (now (kinds .entry)) (now (positions .entry)) (now (pairs .entry)) p q) r ⌝ }
 {
     if hist[p] == hist[q] {
         return true;
@@ -122,23 +132,23 @@ fn linked(
     }
     let a = number_at(kinds, p);
     let b = number_at(kinds, q);
-    if pairs[a * 16 + b] != 0 {
+    if pairs[a * Book::KINDS + b] != 0 {
         return true;
     }
-    pairs[b * 16 + a] != 0
+    pairs[b * Book::KINDS + a] != 0
 }
 
 // Whether place q is linked to p and its row does not tell it yet.
 fn fresh(
-    hist: &[u8; 128],
-    kinds: &[u8; 128],
-    positions: &[u16; 128],
-    pairs: &[u8; 256],
+    hist: &[u8; Book::STEPS],
+    kinds: &[u8; Book::STEPS],
+    positions: &[u16; Book::STEPS],
+    pairs: &[u8; Book::PAIRS_SIZE],
     dep: &Table,
     p: usize,
     q: usize,
 ) -> bool
-    requires { ⌜ (p < 128) × (q < 128) × Small 16 (now kinds) ⌝ }
+    requires { ⌜ (p < step-limit) × (q < step-limit) × Small kind-limit (now kinds) ⌝ }
     ensures { λ r. ⌜ Fresh (Link (now (hist .entry)) (now (kinds .entry)) (now (positions .entry)) (now (pairs .entry))) (now (dep .entry)) p q r ⌝ }
 {
     if linked(hist, kinds, positions, pairs, p, q) {
@@ -152,14 +162,14 @@ fn fresh(
 
 // The row of place q, from the rows of the places before it. A place that the row tells already brings nothing new.
 fn dependence_row(
-    hist: &[u8; 128],
-    kinds: &[u8; 128],
-    positions: &[u16; 128],
-    pairs: &[u8; 256],
+    hist: &[u8; Book::STEPS],
+    kinds: &[u8; Book::STEPS],
+    positions: &[u16; Book::STEPS],
+    pairs: &[u8; Book::PAIRS_SIZE],
     q: usize,
     dep: &mut Table,
 )
-    requires { ⌜ (q < 128) × Small 16 (now kinds) ⌝ }
+    requires { ⌜ (q < step-limit) × Small kind-limit (now kinds) ⌝ }
     ensures { λ r. ⌜ StepRead (Link (now (hist .entry)) (now (kinds .entry)) (now (positions .entry)) (now (pairs .entry))) (now (dep .entry)) (now (dep .exit)) q ⌝ }
 {
     let mut p = q;
@@ -174,14 +184,14 @@ fn dependence_row(
 
 // The rows of the first n places, in one pass.
 fn dependence_rows(
-    hist: &[u8; 128],
-    kinds: &[u8; 128],
-    positions: &[u16; 128],
-    pairs: &[u8; 256],
+    hist: &[u8; Book::STEPS],
+    kinds: &[u8; Book::STEPS],
+    positions: &[u16; Book::STEPS],
+    pairs: &[u8; Book::PAIRS_SIZE],
     n: usize,
     dep: &mut Table,
 )
-    requires { ⌜ (n ≤ 128) × Small 16 (now kinds) ⌝ }
+    requires { ⌜ (n ≤ step-limit) × Small kind-limit (now kinds) ⌝ }
     ensures { λ r. ⌜ StepsRead (Link (now (hist .entry)) (now (kinds .entry)) (now (positions .entry)) (now (pairs .entry))) (now (dep .exit)) n ⌝ }
 {
     *dep = [0; bits::TABLE_WORDS];
@@ -203,10 +213,10 @@ pub fn dependences(b: Book, dep: &mut Table)
     let positions = b.positions;
     let pairs = b.pairs;
     let n = b.done;
-    let mut next = [0u8; 16];
+    let mut next = [0u8; Book::RUNS];
     starts(&lens, &mut next);
-    let mut kinds_at = [0u8; 128];
-    let mut positions_at = [0u16; 128];
+    let mut kinds_at = [0u8; Book::STEPS];
+    let mut positions_at = [0u16; Book::STEPS];
     by_place(
         &hist,
         n,
@@ -219,12 +229,17 @@ pub fn dependences(b: Book, dep: &mut Table)
     dependence_rows(&hist, &kinds_at, &positions_at, &pairs, n, dep);
 }
 
-// The ordinal of each place, and the place of each step, of run r and ordinal i at r * 32 + i.
-fn number(hist: &[u8; 128], n: usize, ordinals: &mut [u8; 128], places: &mut [u8; 512])
+// The ordinal of each place, and the place of each step.
+fn number(
+    hist: &[u8; Book::STEPS],
+    n: usize,
+    ordinals: &mut [u8; Book::STEPS],
+    places: &mut [u8; PLACES_SIZE],
+)
     requires { ⌜ HistoryOf (now hist) n ⌝ }
     ensures { λ r. ⌜ Numbering (take n (now (hist .entry))) (now (ordinals .exit)) (now (places .exit)) ⌝ }
 {
-    let mut counts = [0u8; 16];
+    let mut counts = [0u8; Book::RUNS];
     let mut p = 0;
     while p < n {
         sized_by_place(*ordinals);
@@ -233,7 +248,7 @@ fn number(hist: &[u8; 128], n: usize, ordinals: &mut [u8; 128], places: &mut [u8
         let i = counts[r];
         ordinals[p] = i;
         let j = wide(i);
-        places[r * 32 + j] = p as u8;
+        places[r * Book::RUN_STEPS + j] = p as u8;
         counts[r] = i + 1;
         p += 1;
     }
@@ -241,29 +256,29 @@ fn number(hist: &[u8; 128], n: usize, ordinals: &mut [u8; 128], places: &mut [u8
 
 // Sets the row of p to p itself.
 fn own(t: &mut Units, p: usize)
-    requires { ⌜ p < 128 ⌝ }
-    ensures { λ r. ⌜ RowSet (now (t .entry)) (now (t .exit)) p (λ o. p) 16 ⌝ }
+    requires { ⌜ p < step-limit ⌝ }
+    ensures { λ r. ⌜ RowSet (now (t .entry)) (now (t .exit)) p (λ o. p) run-limit ⌝ }
 {
     let mut o = 0;
-    while o < 16 {
+    while o < Book::RUNS {
         sized_units(*t);
-        t[p * 16 + o] = p as u8;
+        t[p * Book::RUNS + o] = p as u8;
         o += 1;
     }
 }
 
 // Sets the row of p to the row of the step next to it, but for the runs that see a cut between the two to p itself.
-fn inherit(cuts: &[u8; 8192], at: usize, t: &mut Units, p: usize, from: usize)
+fn inherit(cuts: &[u8; Book::CUTS_SIZE], at: usize, t: &mut Units, p: usize, from: usize)
     requires { ⌜ RowRoom at p from ⌝ }
-    ensures { λ r. ⌜ RowSet (now (t .entry)) (now (t .exit)) p (inherited (now (cuts .entry)) at (now (t .entry)) p from) 16 ⌝ }
+    ensures { λ r. ⌜ RowSet (now (t .entry)) (now (t .exit)) p (inherited (now (cuts .entry)) at (now (t .entry)) p from) run-limit ⌝ }
 {
     let mut o = 0;
-    while o < 16 {
+    while o < Book::RUNS {
         sized_units(*t);
         if cuts[at + o] == 0 {
-            t[p * 16 + o] = t[from * 16 + o];
+            t[p * Book::RUNS + o] = t[from * Book::RUNS + o];
         } else {
-            t[p * 16 + o] = p as u8;
+            t[p * Book::RUNS + o] = p as u8;
         }
         o += 1;
     }
@@ -271,11 +286,11 @@ fn inherit(cuts: &[u8; 8192], at: usize, t: &mut Units, p: usize, from: usize)
 
 // The first place of each unit: a step's own, or that of the step before it.
 fn unit_firsts(
-    hist: &[u8; 128],
+    hist: &[u8; Book::STEPS],
     n: usize,
-    ordinals: &[u8; 128],
-    places: &[u8; 512],
-    cuts: &[u8; 8192],
+    ordinals: &[u8; Book::STEPS],
+    places: &[u8; PLACES_SIZE],
+    cuts: &[u8; Book::CUTS_SIZE],
     t: &mut Units,
 )
     requires { ⌜ HistoryOf (now hist) n × Numbering (take n (now hist)) (now ordinals) (now places) ⌝ }
@@ -288,8 +303,8 @@ fn unit_firsts(
         if i == 0 {
             own(t, p);
         } else {
-            let from = wide(places[r * 32 + i - 1]);
-            inherit(cuts, r * 512 + i * 16, t, p, from);
+            let from = wide(places[r * Book::RUN_STEPS + i - 1]);
+            inherit(cuts, r * RUN_CUTS + i * Book::RUNS, t, p, from);
         }
         p += 1;
     }
@@ -297,12 +312,12 @@ fn unit_firsts(
 
 // The last place of each unit: a step's own, or that of the step after it.
 fn unit_lasts(
-    hist: &[u8; 128],
+    hist: &[u8; Book::STEPS],
     n: usize,
-    ordinals: &[u8; 128],
-    places: &[u8; 512],
-    counts: &[u8; 16],
-    cuts: &[u8; 8192],
+    ordinals: &[u8; Book::STEPS],
+    places: &[u8; PLACES_SIZE],
+    counts: &[u8; Book::RUNS],
+    cuts: &[u8; Book::CUTS_SIZE],
     t: &mut Units,
 )
     requires { ⌜ HistoryOf (now hist) n × Numbering (take n (now hist)) (now ordinals) (now places) × Counts (take n (now hist)) (now counts) ⌝ }
@@ -314,8 +329,8 @@ fn unit_lasts(
         let r = number_at(hist, p);
         let i = wide(ordinals[p]) + 1;
         if i < wide(counts[r]) {
-            let from = wide(places[r * 32 + i]);
-            inherit(cuts, r * 512 + i * 16, t, p, from);
+            let from = wide(places[r * Book::RUN_STEPS + i]);
+            inherit(cuts, r * RUN_CUTS + i * Book::RUNS, t, p, from);
         } else {
             own(t, p);
         }
@@ -330,15 +345,15 @@ pub fn units(b: Book, firsts: &mut Units, lasts: &mut Units)
     let hist = b.history;
     let dones = b.dones;
     let n = b.done;
-    let mut ordinals = [0u8; 128];
-    let mut places = [0u8; 512];
+    let mut ordinals = [0u8; Book::STEPS];
+    let mut places = [0u8; PLACES_SIZE];
     number(&hist, n, &mut ordinals, &mut places);
     unit_firsts(&hist, n, &ordinals, &places, &b.cuts, firsts);
     unit_lasts(&hist, n, &ordinals, &places, &dones, &b.cuts, lasts);
 }
 
 // The places of each run: bit p of row r where p is a place of r.
-fn run_masks(hist: &[u8; 128], n: usize, masks: &mut Table)
+fn run_masks(hist: &[u8; Book::STEPS], n: usize, masks: &mut Table)
     requires { ⌜ HistoryOf (now hist) n ⌝ }
     ensures { λ r. ⌜ Marks (InRun (take n (now (hist .entry))) n) (now (masks .exit)) ⌝ }
 {
@@ -353,16 +368,16 @@ fn run_masks(hist: &[u8; 128], n: usize, masks: &mut Table)
 
 // What a table of units has of place p and run o.
 fn place_in(t: &Units, n: usize, p: usize, o: usize) -> usize
-    requires { ⌜ Rowed n (now t) × (p < n) × (n ≤ 128) × (o < 16) ⌝ }
-    ensures { λ r. ⌜ NumberAt (now (t .entry)) (p * 16 + o) 128 r ⌝ }
+    requires { ⌜ Rowed n (now t) × (p < n) × (n ≤ step-limit) × (o < run-limit) ⌝ }
+    ensures { λ r. ⌜ NumberAt (now (t .entry)) (p * run-limit + o) step-limit r ⌝ }
 {
-    wide(t[p * 16 + o])
+    wide(t[p * Book::RUNS + o])
 }
 
 // The arcs that come of what place q, of run s, depends on in another run r, whose places the mask has; l is the last such place.
 // D: from each to q. F: from the last place of l's unit to q. B: from each to the first place of q's unit.
 fn arcs_across(
-    hist: &[u8; 128],
+    hist: &[u8; Book::STEPS],
     n: usize,
     dep: &Table,
     firsts: &Units,
@@ -374,7 +389,7 @@ fn arcs_across(
     l: usize,
     arc: &mut Table,
 )
-    requires { ⌜ ArcInput (now hist) n (now dep) (now firsts) (now lasts) (now mask) r × (q < n) × NumberAt (now hist) q 16 s × (r ≢ s) × LastAt (intersection (bit-at (now dep) q) (bit-at (now mask) 0)) l ⌝ }
+    requires { ⌜ ArcInput (now hist) n (now dep) (now firsts) (now lasts) (now mask) r × (q < n) × NumberAt (now hist) q run-limit s × (r ≢ s) × LastAt (intersection (bit-at (now dep) q) (bit-at (now mask) 0)) l ⌝ }
     ensures { λ _. ⌜ GainedBy ArcBy (take n (now (hist .entry))) (now (dep .entry)) (now (firsts .entry)) (now (lasts .entry)) r q (now (arc .entry)) (now (arc .exit)) ⌝ }
 {
     let e = place_in(lasts, n, l, s);
@@ -386,7 +401,7 @@ fn arcs_across(
 
 // The arcs that come of what place q depends on in run r. I: from the last, if r is q's run.
 fn arcs_between(
-    hist: &[u8; 128],
+    hist: &[u8; Book::STEPS],
     n: usize,
     dep: &Table,
     firsts: &Units,
@@ -414,7 +429,7 @@ fn arcs_between(
 
 // The arcs that come of what any place depends on in run r.
 fn arcs_from(
-    hist: &[u8; 128],
+    hist: &[u8; Book::STEPS],
     n: usize,
     dep: &Table,
     firsts: &Units,
@@ -435,7 +450,7 @@ fn arcs_from(
 
 // The arc rows, run after run.
 fn arc_rows(
-    hist: &[u8; 128],
+    hist: &[u8; Book::STEPS],
     n: usize,
     runs: usize,
     dep: &Table,
@@ -464,8 +479,8 @@ pub fn arcs(b: Book, arc: &mut Table)
 {
     let mut dep = [0; bits::TABLE_WORDS];
     dependences(b, &mut dep);
-    let mut firsts = [0u8; 2048];
-    let mut lasts = [0u8; 2048];
+    let mut firsts = [0u8; UNITS_SIZE];
+    let mut lasts = [0u8; UNITS_SIZE];
     units(b, &mut firsts, &mut lasts);
     let hist = b.history;
     let n = b.done;

@@ -11,7 +11,9 @@ use lib.Dec.{eqb}
 use Rattle.bits.specs.Table.{row-bits, bit-at, Within, Marked}
 use Rattle.bits.specs.declared.Found.the-variants.{At, Nothing}
 use Rattle.bits.proofs.Store.{bit-at-lt}
-use Rattle.judge.specs.Inner.{Answers, In, ReadyIn, NoneReady, FirstReady, AllTaken, FirstUntaken}
+use Rattle.graph.specs.Answers.{Answers}
+use Rattle.graph.proofs.Answered.{answer-no, refute}
+use Rattle.judge.specs.Inner.{In, ReadyIn, NoneReady, FirstReady, AllTaken, FirstUntaken}
 
 -- ---- sets of places
 
@@ -69,7 +71,7 @@ untaken-none t n p w a l = record { within = w; before = a; here = λ k. absurd 
 -- ---- the first ready place
 
 pub taken-answers : (arc t : List ℕ) (p : ℕ) (b : Bool) → b ≡ eqb (bit-at t 0 p) 1 → b ≡ true → Answers (ReadyIn arc t p) false
-taken-answers arc t p b e h = record { sound = λ q. absurd (true≢false (sym q)); complete = λ r. absurd (both-ways (r .untaken) (has-in t p b e h)) }
+taken-answers arc t p b e h = answer-no (λ r. both-ways (r .untaken) (has-in t p b e h))
 
 pub within-answers : (arc t : List ℕ) (p : ℕ) (b r : Bool) → b ≡ eqb (bit-at t 0 p) 1 → b ≡ false → Within (bit-at arc p) (bit-at t 0) r → Answers (ReadyIn arc t p) r
 within-answers arc t p b r e h w = record {
@@ -84,7 +86,7 @@ pub none-more : (arc t : List ℕ) (p : ℕ) (b : Bool) → NoneReady arc t p �
 none-more arc t p b w s f = record { none = λ k l. go k l (ℕ-discrete k p) }
   where
     go : (k : ℕ) → k < p + 1 → Dec (k ≡ p) → ¬ ReadyIn arc t k
-    go k l (yes e) g = true≢false (sym (s .complete (rw e at g)) ∙ f)
+    go k l (yes e) g = refute s f (rw e at g)
     go k l (no n) g = w .none k (omega arith) g
 
 pub first-at : (arc t : List ℕ) (n p : ℕ) (b : Bool) → NoneReady arc t p → p < n → Answers (ReadyIn arc t p) b → b ≡ true → FirstReady arc t n (At p)

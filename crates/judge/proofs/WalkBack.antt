@@ -13,7 +13,7 @@ use lib.Seq.{getD-set-same, getD-set-other, getD-take, getD-drop, length-take-le
 use Rattle.theory.proofs.Finite.{below-suc}
 use Rattle.theory.proofs.Cycles.{NotIn, Distinct, Below, pigeonhole}
 use Rattle.bits.specs.Table.{row-bits, bit-at, difference}
-use Rattle.bits.specs.First.{FirstAt, NoneFrom, First}
+use Rattle.bits.specs.First.{FirstAt, NoColumn, First}
 use Rattle.bits.specs.declared.Found.{Found}
 use Rattle.bits.specs.declared.Found.the-variants.{At, Nothing}
 use Rattle.bits.proofs.Store.{bit-at-lt}
@@ -208,14 +208,14 @@ module _ (arc taken : List ℕ) (n : ℕ) (st : Stuck arc taken n) (trail seen :
           t .distinct j k l b (sym (old j jl) ∙ q ∙ old k b)
 
   -- v is not ready, so it has a source that is not taken
-  pub never-none : (cycle cycle′ : List ℕ) (r : ℕ) (f : Found) → First (difference (bit-at arc v) (bit-at taken 0)) 0 f → f ≡ Nothing → CycleIn arc n cycle cycle′ r
+  pub never-none : (cycle cycle′ : List ℕ) (r : ℕ) (f : Found) → First (difference (bit-at arc v) (bit-at taken 0)) f → f ≡ Nothing → CycleIn arc n cycle cycle′ r
   never-none cycle cycle′ r f so ef = absurd (st .none .none v vn (record { untaken = w .untaken; sources = source }))
     where
-      none : NoneFrom (difference (bit-at arc v) (bit-at taken 0)) 0
-      none = subst (First (difference (bit-at arc v) (bit-at taken 0)) 0) ef so
+      none : NoColumn (difference (bit-at arc v) (bit-at taken 0))
+      none = subst (First (difference (bit-at arc v) (bit-at taken 0))) ef so
 
       source : (x : ℕ) → x < row-bits → bit-at arc v x ≡ 1 → In taken x
-      source x h e = omega (arith, none .none x zero-le h, bit-at-lt taken 0 x)
+      source x h e = omega (arith, none .none x h, bit-at-lt taken 0 x)
 
   pub never-long : (cycle cycle′ : List ℕ) (r : ℕ) → step-limit ≤ len → CycleIn arc n cycle cycle′ r
   never-long cycle cycle′ r l = absurd (lt-irrefl len (omega (arith, room-limit)))
@@ -226,9 +226,9 @@ module _ (arc taken : List ℕ) (n : ℕ) (st : Stuck arc taken n) (trail seen :
   pub v-byte : Fits w8 v
   v-byte = record { fits = omega (arith, v-limit) }
 
-  module _ (x : ℕ) (f : Found) (so : First (difference (bit-at arc v) (bit-at taken 0)) 0 f) (ef : f ≡ At x) where
-    src : FirstAt (difference (bit-at arc v) (bit-at taken 0)) 0 x
-    src = subst (First (difference (bit-at arc v) (bit-at taken 0)) 0) ef so
+  module _ (x : ℕ) (f : Found) (so : First (difference (bit-at arc v) (bit-at taken 0)) f) (ef : f ≡ At x) where
+    src : FirstAt (difference (bit-at arc v) (bit-at taken 0)) x
+    src = subst (First (difference (bit-at arc v) (bit-at taken 0))) ef so
 
     x-marked : bit-at arc v x ≡ 1
     x-marked = omega (arith, src .here, bit-at-lt arc v x)

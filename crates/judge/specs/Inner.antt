@@ -2,7 +2,7 @@
 use Prim.Native.Nat.{ℕ, suc, _-_, _≤_, _<_}
 use mathlib.Core.Path.{_≡_}
 use mathlib.Core.Logic.{_⊎_, _≢_}
-use mathlib.Core.Bool.{Bool, true}
+use mathlib.Core.Bool.{Bool}
 use mathlib.Core.List.{List, _++_}
 use lib.ListN.{length, getD, take, drop}
 use Rattle.theory.specs.Relative.{Lawful}
@@ -15,11 +15,6 @@ use Rattle.graph.specs.Marks.{Marks}
 use Rattle.judge.specs.Judged.{JudgedAs}
 use Rattle.judge.specs.declared.Judgement.{Judgement}
 use Rattle.judge.specs.declared.Turns.{Turns}
-
--- the answer says whether P
-pub record Answers (P : Type 0) (answer : Bool) : Type 0 where
-  pub sound : answer ≡ true → P
-  pub complete : P → answer ≡ true
 
 -- the place p is in the set
 abbrev pub In : List ℕ → ℕ → Type 0

@@ -12,11 +12,12 @@ ghost use Rattle.bits.specs.Table.{row-bits};
 ghost use Rattle.book.specs.Format.{step-limit};
 ghost use Rattle.book.specs.Meaning.{conflict-of, unit-of};
 ghost use Rattle.book.specs.Book.{contents-of, Valid};
+ghost use Rattle.graph.specs.Answers.{Answers};
 ghost use Rattle.judge.specs.Judged.{JudgedAs};
 ghost use Rattle.judge.specs.Judge.{BytesJudged};
 ghost use Rattle.judge.specs.Front.{front-of};
 ghost use Rattle.judge.specs.declared.Verdict.the-variants.{Refused};
-ghost use Rattle.judge.specs.Inner.{Answers, ReadyIn, AllTaken, FirstUntaken, FirstReady, Stored, TurnsTaken, Stuck, CycleIn, Copied, Graph, JudgedArcs};
+ghost use Rattle.judge.specs.Inner.{ReadyIn, AllTaken, FirstUntaken, FirstReady, Stored, TurnsTaken, Stuck, CycleIn, Copied, Graph, JudgedArcs};
 
 // Refused: the cause and the place.
 pub enum Verdict {
@@ -217,7 +218,7 @@ fn refused(cause: Cause, place: usize) -> Judgement
     }
 }
 
-// The judge of a book's bytes. Both buffers have at least 128 bytes, or the judge refuses.
+// The judge of a book's bytes. Both buffers have at least PLACES bytes, or the judge refuses.
 pub fn judge(s: &[u8], order: &mut [u8], cycle: &mut [u8]) -> Judgement
     ensures { λ r. ⌜ BytesJudged (now (order .entry)) (now (order .exit)) (now (cycle .entry)) (now (cycle .exit)) (now (s .entry)) r ⌝ }
 {

@@ -1,6 +1,5 @@
 -- Histories that a book's runs allow: its own is one, and a book with any of them in its place is a book.
-use Prim.Native.Nat.{ℕ, zero, suc, _+_, _≤_, _<_, zero-le}
-use native.Mathlib.Nat.{not-suc-le-zero, le-of-suc-le-suc}
+use Prim.Native.Nat.{ℕ, suc, _+_, _≤_, _<_, zero-le}
 use mathlib.Core.Path.{_≡_, refl, ap}
 use mathlib.Core.List.{List, [], _∷_, _++_, append-assoc, append-nil}
 use mathlib.Core.Bool.{Bool, true, false}
@@ -28,22 +27,10 @@ length-lengths : (rs : List (List Step)) → length (lengths rs) ≡ length rs
 length-lengths [] = refl
 length-lengths (r ∷ rs) = ap suc (length-lengths rs)
 
--- ---- the numbers in such a history are declared runs
-
-count-member : (k : List ℕ) (i : ℕ) → i < length k → 0 < count k (getD k i 0)
-count-member [] i h = absurd (not-suc-le-zero h)
-count-member (x ∷ k) zero h = rw (eq-eqb x x refl) (omega arith)
-count-member (x ∷ k) (suc i) h = go (eqb x (getD k i 0)) (count-member k i (le-of-suc-le-suc h))
-  where
-    go : (b : Bool) → 0 < count k (getD k i 0) → 0 < suc-if b (count k (getD k i 0))
-    go true l = omega arith
-    go false l = l
+-- ---- a run that has steps is declared
 
 pub declared : (c : Contents) (r : ℕ) → 0 < getD (lengths (c .runs)) r 0 → r < length (c .runs)
 declared c r h = rw (← length-lengths) (inside (lengths (c .runs)) r h)
-
-pub allowed-declared : (c : Contents) (k : List ℕ) → Allowed k c → (i : ℕ) → i < length k → getD k i 0 < length (c .runs)
-allowed-declared c k w i h = declared c (getD k i 0) (omega (arith, count-member k i h, w (getD k i 0)))
 
 -- ---- a book's own history is one that its runs allow
 
@@ -62,9 +49,6 @@ command-allowed (done {t} q h) g w r = rw (count-append (t .contents .history) (
 pub well-formed-allowed : {t : State} → WellFormed t → Allowed (t .contents .history) (t .contents)
 well-formed-allowed empty = λ r. zero-le
 well-formed-allowed (more w c) = command-allowed c (grouped w) (well-formed-allowed w)
-
-pub own-history-allowed : (c : Contents) → IsBook c → Allowed (c .history) c
-own-history-allowed c b = rw (← b .contents) (well-formed-allowed (b .well-formed))
 
 -- ---- a book with another history is a book
 

@@ -80,14 +80,14 @@ module _ (s out : List ℕ) (r : Reading) (h : ReadAs (read s) r) where
           let cuts = cut-bytes (cuts-of (b .cuts)) in
           let history = done-bytes (take (b .done) (b .history)) in
           record {
-            pairs256 = v .pairs .long;
+            pairs-long = v .pairs .long;
             runs-held = record {
-              lens16 = v .lens .long;
-              runs16 = v .few-runs;
-              steps = record { kinds128 = v .kinds .long; positions128 = v .positions .long; within = omega (arith, v .steps-sum, v .few-steps) };
+              lens-long = v .lens .long;
+              few-runs = v .few-runs;
+              steps = record { kinds-long = v .kinds .long; positions-long = v .positions .long; within = omega (arith, v .steps-sum, v .few-steps) };
             };
-            cuts8192 = v .cuts .long;
-            history-held = record { history128 = v .history .long; done128 = omega (arith, done-few b v, v .few-steps) };
+            cuts-long = v .cuts .long;
+            history-held = record { long = v .history .long; within = omega (arith, done-few b v, v .few-steps) };
             room = omega (
               arith,
               ap length rendered,

@@ -5,9 +5,9 @@ use mathlib.Core.List.{List, [], _∷_, _++_}
 use lib.ListN.{length, take, drop}
 use lib.Dec.{eqb}
 use Rattle.theory.specs.Deck.{Step}
-use Rattle.book.specs.Format.{pick, sum}
+use Rattle.book.specs.Format.{run-limit, step-limit, pick, sum}
 use Rattle.writer.specs.Render.{pair-bytes, step-bytes, run-bytes, cut-bytes, done-bytes}
-use Rattle.book.specs.Book.{pair-of, cut-of, steps-at}
+use Rattle.book.specs.Book.{pairs-size, cuts-size, pair-of, cut-of, steps-at}
 use Rattle.writer.specs.Tables.{pairs-of, cuts-of, runs-of}
 
 -- the first n parts, one after another
@@ -42,23 +42,23 @@ steps-from kinds positions base count = take count (drop base (steps-at kinds po
 
 -- n steps
 pub record StepsHeld (kinds positions : List ℕ) (n : ℕ) : Type 0 where
-  pub kinds128 : length kinds ≡ 128
-  pub positions128 : length positions ≡ 128
-  pub within : n ≤ 128
+  pub kinds-long : length kinds ≡ step-limit
+  pub positions-long : length positions ≡ step-limit
+  pub within : n ≤ step-limit
 
 pub record RunsHeld (runs : ℕ) (lens kinds positions : List ℕ) : Type 0 where
-  pub lens16 : length lens ≡ 16
-  pub runs16 : runs ≤ 16
+  pub lens-long : length lens ≡ run-limit
+  pub few-runs : runs ≤ run-limit
   pub steps : StepsHeld kinds positions (sum (take runs lens))
 
 pub record HistoryHeld (history : List ℕ) (done : ℕ) : Type 0 where
-  pub history128 : length history ≡ 128
-  pub done128 : done ≤ 128
+  pub long : length history ≡ step-limit
+  pub within : done ≤ step-limit
 
 -- a book, and n bytes have room for every group and the end
 pub record BookHeld (pairs : List ℕ) (runs : ℕ) (lens kinds positions cuts history : List ℕ) (done n : ℕ) : Type 0 where
-  pub pairs256 : length pairs ≡ 256
+  pub pairs-long : length pairs ≡ pairs-size
   pub runs-held : RunsHeld runs lens kinds positions
-  pub cuts8192 : length cuts ≡ 8192
+  pub cuts-long : length cuts ≡ cuts-size
   pub history-held : HistoryHeld history done
   pub room : length (pair-bytes (pairs-of pairs)) + length (run-bytes 0 (runs-of runs lens kinds positions)) + length (cut-bytes (cuts-of cuts)) + length (done-bytes (take done history)) + 1 ≤ n

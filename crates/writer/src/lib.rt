@@ -1,11 +1,13 @@
 // The writer: it reads a book, and puts the bytes of what was read into a lent buffer. One function a group, each lent what is left of the
 // buffer behind the group before. Each function that puts bytes answers how many.
 use book::Answer;
+use book::Book;
 use book::Cause;
 ghost use mathlib.Core.Path.{_≡_};
 ghost use mathlib.Core.List.{[], _∷_};
 ghost use Prim.Native.Nat.{_+_, _<_, _≤_};
 ghost use lib.ListN.{length, take};
+ghost use Rattle.book.specs.Book.{pairs-size, cuts-size};
 ghost use Rattle.writer.specs.Render.{pair-bytes, step-bytes, run-bytes, cut-bytes, done-bytes, render};
 ghost use Rattle.writer.specs.Tables.{pairs-of, cuts-of, runs-of, table-contents};
 ghost use Rattle.writer.specs.Parts.{pair-part, cut-part, step-part, steps-from, StepsHeld, RunsHeld, HistoryHeld, BookHeld};
@@ -19,6 +21,9 @@ pub enum Written {
     // The cause and the place, which is 0 where the buffer is short.
     Refused(Cause, usize),
 }
+
+// How many entries a book's table of cuts has of each run.
+const RUN_CUTS: usize = Book::RUN_STEPS * Book::RUNS;
 
 fn wide(x: u8) -> usize
     ensures { λ r. ⌜ r ≡ x ⌝ }
@@ -59,19 +64,24 @@ fn put_four(a: u8, b: u8, c: u8, d: u8, out: &mut [u8]) -> usize
 
 // 43 and the kinds of the pair at an index of the table, if it is marked there.
 fn put_pair(mark: u8, index: usize, out: &mut [u8]) -> usize
-    requires { ⌜ (index < 256) × (length (pair-part mark index) ≤ length (now out)) ⌝ }
+    requires { ⌜ (index < pairs-size) × (length (pair-part mark index) ≤ length (now out)) ⌝ }
     ensures { λ r. ⌜ Put (pair-part mark index) (now (out .entry)) (now (out .exit)) r ⌝ }
 {
     if mark == 0 {
         0
     } else {
-        put_three(0x43, (index / 16) as u8, (index % 16) as u8, out)
+        put_three(
+            0x43,
+            (index / Book::KINDS) as u8,
+            (index % Book::KINDS) as u8,
+            out,
+        )
     }
 }
 
 // 42 and the triple of the cut at an index of the table, if it is marked there.
 fn put_cut(mark: u8, index: usize, out: &mut [u8]) -> usize
-    requires { ⌜ (index < 8192) × (length (cut-part mark index) ≤ length (now out)) ⌝ }
+    requires { ⌜ (index < cuts-size) × (length (cut-part mark index) ≤ length (now out)) ⌝ }
     ensures { λ r. ⌜ Put (cut-part mark index) (now (out .entry)) (now (out .exit)) r ⌝ }
 {
     if mark == 0 {
@@ -79,9 +89,9 @@ fn put_cut(mark: u8, index: usize, out: &mut [u8]) -> usize
     } else {
         put_four(
             0x42,
-            (index / 512) as u8,
-            (index % 512 / 16) as u8,
-            (index % 16) as u8,
+            (index / RUN_CUTS) as u8,
+            (index % RUN_CUTS / Book::RUNS) as u8,
+            (index % Book::RUNS) as u8,
             out,
         )
     }
@@ -102,13 +112,13 @@ fn put_step(kind: u8, position: u16, out: &mut [u8]) -> usize
 }
 
 // The group of 43.
-fn put_pairs(pairs: &[u8; 256], out: &mut [u8]) -> usize
-    requires { ⌜ (length (now pairs) ≡ 256) × (length (pair-bytes (pairs-of (now pairs))) ≤ length (now out)) ⌝ }
+fn put_pairs(pairs: &[u8; Book::PAIRS_SIZE], out: &mut [u8]) -> usize
+    requires { ⌜ (length (now pairs) ≡ pairs-size) × (length (pair-bytes (pairs-of (now pairs))) ≤ length (now out)) ⌝ }
     ensures { λ r. ⌜ Put (pair-bytes (pairs-of (now (pairs .entry)))) (now (out .entry)) (now (out .exit)) r ⌝ }
 {
     let mut at: usize = 0;
     let mut i: usize = 0;
-    while i < 256 {
+    while i < Book::PAIRS_SIZE {
         let n = put_pair(pairs[i], i, &mut out[at..]);
         at += n;
         i += 1;
@@ -120,8 +130,8 @@ fn put_pairs(pairs: &[u8; 256], out: &mut [u8]) -> usize
 fn put_steps(
     base: usize,
     count: usize,
-    kinds: &[u8; 128],
-    positions: &[u16; 128],
+    kinds: &[u8; Book::STEPS],
+    positions: &[u16; Book::STEPS],
     out: &mut [u8],
 ) -> usize
     requires { ⌜ StepsHeld (now kinds) (now positions) (base + count) × (length (step-bytes (steps-from (now kinds) (now positions) base count)) ≤ length (now out)) ⌝ }
@@ -143,8 +153,8 @@ fn put_run(
     run: u8,
     base: usize,
     count: usize,
-    kinds: &[u8; 128],
-    positions: &[u16; 128],
+    kinds: &[u8; Book::STEPS],
+    positions: &[u16; Book::STEPS],
     out: &mut [u8],
 ) -> usize
     requires { ⌜ StepsHeld (now kinds) (now positions) (base + count) × (length (run-bytes run (steps-from (now kinds) (now positions) base count ∷ [])) ≤ length (now out)) ⌝ }
@@ -158,9 +168,9 @@ fn put_run(
 // The group of 52 and 53.
 fn put_runs(
     runs: usize,
-    lens: &[u8; 16],
-    kinds: &[u8; 128],
-    positions: &[u16; 128],
+    lens: &[u8; Book::RUNS],
+    kinds: &[u8; Book::STEPS],
+    positions: &[u16; Book::STEPS],
     out: &mut [u8],
 ) -> usize
     requires { ⌜ RunsHeld runs (now lens) (now kinds) (now positions) × (length (run-bytes 0 (runs-of runs (now lens) (now kinds) (now positions))) ≤ length (now out)) ⌝ }
@@ -180,13 +190,13 @@ fn put_runs(
 }
 
 // The group of 42.
-fn put_cuts(cuts: &[u8; 8192], out: &mut [u8]) -> usize
-    requires { ⌜ (length (now cuts) ≡ 8192) × (length (cut-bytes (cuts-of (now cuts))) ≤ length (now out)) ⌝ }
+fn put_cuts(cuts: &[u8; Book::CUTS_SIZE], out: &mut [u8]) -> usize
+    requires { ⌜ (length (now cuts) ≡ cuts-size) × (length (cut-bytes (cuts-of (now cuts))) ≤ length (now out)) ⌝ }
     ensures { λ r. ⌜ Put (cut-bytes (cuts-of (now (cuts .entry)))) (now (out .entry)) (now (out .exit)) r ⌝ }
 {
     let mut at: usize = 0;
     let mut i: usize = 0;
-    while i < 8192 {
+    while i < Book::CUTS_SIZE {
         let n = put_cut(cuts[i], i, &mut out[at..]);
         at += n;
         i += 1;
@@ -195,7 +205,7 @@ fn put_cuts(cuts: &[u8; 8192], out: &mut [u8]) -> usize
 }
 
 // The group of 48.
-fn put_history(history: &[u8; 128], done: usize, out: &mut [u8]) -> usize
+fn put_history(history: &[u8; Book::STEPS], done: usize, out: &mut [u8]) -> usize
     requires { ⌜ HistoryHeld (now history) done × (length (done-bytes (take done (now history))) ≤ length (now out)) ⌝ }
     ensures { λ r. ⌜ Put (done-bytes (take done (now (history .entry)))) (now (out .entry)) (now (out .exit)) r ⌝ }
 {
@@ -220,13 +230,13 @@ fn put_end(out: &mut [u8]) -> usize
 
 // All groups, each behind the one before.
 fn put_book<'a>(
-    pairs: &'a [u8; 256],
+    pairs: &'a [u8; Book::PAIRS_SIZE],
     runs: usize,
-    lens: &'a [u8; 16],
-    kinds: &'a [u8; 128],
-    positions: &'a [u16; 128],
-    cuts: &'a [u8; 8192],
-    history: &'a [u8; 128],
+    lens: &'a [u8; Book::RUNS],
+    kinds: &'a [u8; Book::STEPS],
+    positions: &'a [u16; Book::STEPS],
+    cuts: &'a [u8; Book::CUTS_SIZE],
+    history: &'a [u8; Book::STEPS],
     done: usize,
     out: &mut [u8],
 ) -> usize

@@ -4,7 +4,6 @@ use Rattle.bits.proofs.Store.{marked-by}
 use borrow.Author.Needs.{needs}
 use Rattle.bits.proofs.add.Statement.{statement}
 use Rattle.bits.proofs.add.Tie as tie
-use Rattle.bits.proofs.sized_row.Reads as sized-row-reads
 
 sized-row-requires : tie.Need-sized-row-requires
 sized-row-requires c κs = search needs

@@ -1,4 +1,4 @@
--- As `next`, in the words of the row with the columns of the mask taken out.
+-- Before each turn no earlier word has a column of the row outside the mask, and trailing zeros find the first one of a word.
 use mathlib.Core.Path.{_≡_, _∙_}
 use Prim.Native.Nat.{ℕ, _-_, _/_, _%_, min}
 use native.Mathlib.Omega.{arith}
@@ -11,13 +11,13 @@ use Rattle.bits.proofs.first_outside.Statement.{statement}
 use Rattle.bits.proofs.first_outside.Tie as tie
 
 abbrev Inv-loop : tie.InvT-loop
-Inv-loop t row mask k₀ k = NoneYet (difference (bit-at t row) (bit-at mask 0)) 0 k 0
+Inv-loop t row mask k₀ k = NoneYet (difference (bit-at t row) (bit-at mask 0)) k
 
 abbrev μ-loop : tie.MeasureT-loop
 μ-loop t row mask k₀ k = row-words - k
 
 loop-holds : tie.Need-loop-holds Inv-loop μ-loop
-loop-holds c = none-yet-start _ _
+loop-holds c = none-yet-start _
 
 mul-outside : tie.Need-mul-outside Inv-loop μ-loop
 mul-outside c = search needs
@@ -69,7 +69,7 @@ loop-less c = search needs
 loop-again : tie.Need-loop-again Inv-loop μ-loop
 loop-again c =
     let h = c .before .before .before .before .before in
-    none-yet-more (h .loop .inv) (lowest (c .before .outside .result)) (columns (c .before)) (omega arith) (omega arith)
+    none-yet-more (h .loop .inv) (lowest (c .before .outside .result)) (columns (c .before)) (omega arith)
 
 returns-2 : tie.Need-returns-2 Inv-loop μ-loop
 returns-2 c = none-yet-end (omega arith) (c .before .loop .inv)

@@ -21,14 +21,14 @@ returns c =
     let u = c .before .before in
     let a = u .before .args in
     outside-found (bit-at-lt (a .t .now) (a .row)) (bit-at-lt (a .mask .now) 0)
-    (subst (First _ 0) (c .enum-told .given .1) (u .first-outside .ensures))
+    (subst (First _) (c .enum-told .given .1) (u .first-outside .ensures))
 
 returns-2 : tie.Need-returns-2
 returns-2 c =
     let u = c .before .before in
     let a = u .before .args in
     outside-none (bit-at-lt (a .t .now) (a .row)) (bit-at-lt (a .mask .now) 0)
-    (subst (First _ 0) (c .enum-told2 .given .1) (u .first-outside .ensures))
+    (subst (First _) (c .enum-told2 .given .1) (u .first-outside .ensures))
 
 pub within-spec : {M : Type 1} → statement M
 within-spec = tie.close (tie.spec first-outside-requires enum-told enum-told-2 returns returns-2)

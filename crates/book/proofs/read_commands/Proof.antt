@@ -2,16 +2,16 @@
 -- Each arm stores what its command says, which is what the format adds; the offset grows, so the loop ends.
 use lib.ListN.{length}
 use Prim.Native.Nat.{_-_}
-use Rattle.book.proofs.Loop.{Rest, begins, pair-low, pair-ahead, pair-again, pair-less, cut-low, cut-ahead, cut-again, cut-less, run-ahead, run-again, run-less, step-declared, step-few, step-fits, step-ahead, step-again, step-less, done-run, done-low, done-fits, done-ahead, done-again, done-less, ends-refused, ends-accepted}
+use Rattle.book.proofs.Loop.{Rest, begins, stands, pair-low, pair-again, pair-less, cut-low, cut-again, cut-less, run-low, run-again, run-less, step-declared, step-few, step-fits, step-again, step-less, done-run, done-low, done-fits, done-again, done-less, ends-refused, ends-accepted}
 use borrow.Author.Needs.{needs}
 use Rattle.book.proofs.read_commands.Statement.{statement}
 use Rattle.book.proofs.read_commands.Tie as tie
 
 abbrev Inv-loop : tie.InvT-loop
-Inv-loop s book₀ p₀ book p = Rest s book p
+Inv-loop s book₀ p₀ at₀ book p at = Rest s book at p
 
 abbrev μ-loop : tie.MeasureT-loop
-μ-loop s book₀ p₀ book p = length s - p .at
+μ-loop s book₀ p₀ at₀ book p at = length s - at
 
 empty-requires : tie.Need-empty-requires Inv-loop μ-loop
 empty-requires c κs = search needs
@@ -22,8 +22,8 @@ start-requires c κs = search needs
 loop-holds : tie.Need-loop-holds Inv-loop μ-loop
 loop-holds c = search begins
 
-command-at-requires : tie.Need-command-at-requires Inv-loop μ-loop
-command-at-requires c κs = search needs
+next-command-requires : tie.Need-next-command-requires Inv-loop μ-loop
+next-command-requires c κs = search stands
 
 enum-known-command : tie.Need-enum-known-command Inv-loop μ-loop
 enum-known-command c = search needs
@@ -32,7 +32,7 @@ element-write-book : tie.Need-element-write-book Inv-loop μ-loop
 element-write-book c = search pair-low
 
 past-pair-requires : tie.Need-past-pair-requires Inv-loop μ-loop
-past-pair-requires c κs = search pair-ahead
+past-pair-requires c κs = search pair-low
 
 loop-less : tie.Need-loop-less Inv-loop μ-loop
 loop-less c = search pair-less
@@ -44,7 +44,7 @@ enum-told : tie.Need-enum-told Inv-loop μ-loop
 enum-told c = search needs
 
 past-run-requires : tie.Need-past-run-requires Inv-loop μ-loop
-past-run-requires c κs = search run-ahead
+past-run-requires c κs = search run-low
 
 loop-less-2 : tie.Need-loop-less-2 Inv-loop μ-loop
 loop-less-2 c = search run-less
@@ -55,12 +55,6 @@ loop-again-2 c = search run-again
 enum-known-command-2 : tie.Need-enum-known-command-2 Inv-loop μ-loop
 enum-known-command-2 c = search needs
 
-sub-last : tie.Need-sub-last Inv-loop μ-loop
-sub-last c = search step-declared
-
-element-copy-out-len : tie.Need-element-copy-out-len Inv-loop μ-loop
-element-copy-out-len c = search needs
-
 element-write-book-2 : tie.Need-element-write-book-2 Inv-loop μ-loop
 element-write-book-2 c = search step-few
 
@@ -70,6 +64,12 @@ mul-book c = search needs
 element-write-book-3 : tie.Need-element-write-book-3 Inv-loop μ-loop
 element-write-book-3 c = search step-few
 
+sub-book : tie.Need-sub-book Inv-loop μ-loop
+sub-book c = search step-declared
+
+element-copy-out-book : tie.Need-element-copy-out-book Inv-loop μ-loop
+element-copy-out-book c = search needs
+
 add-book : tie.Need-add-book Inv-loop μ-loop
 add-book c = search step-fits
 
@@ -77,7 +77,7 @@ element-write-book-4 : tie.Need-element-write-book-4 Inv-loop μ-loop
 element-write-book-4 c = search needs
 
 past-step-requires : tie.Need-past-step-requires Inv-loop μ-loop
-past-step-requires c κs = search step-ahead
+past-step-requires c κs = search step-few
 
 loop-less-3 : tie.Need-loop-less-3 Inv-loop μ-loop
 loop-less-3 c = search step-less
@@ -92,7 +92,7 @@ element-write-book-5 : tie.Need-element-write-book-5 Inv-loop μ-loop
 element-write-book-5 c = search cut-low
 
 past-cut-requires : tie.Need-past-cut-requires Inv-loop μ-loop
-past-cut-requires c κs = search cut-ahead
+past-cut-requires c κs = search cut-low
 
 loop-less-4 : tie.Need-loop-less-4 Inv-loop μ-loop
 loop-less-4 c = search cut-less
@@ -106,11 +106,11 @@ enum-known-command-4 c = search needs
 wide-requires : tie.Need-wide-requires Inv-loop μ-loop
 wide-requires c κs = search needs
 
-element-copy-out-done : tie.Need-element-copy-out-done Inv-loop μ-loop
-element-copy-out-done c = search done-run
-
 element-write-book-6 : tie.Need-element-write-book-6 Inv-loop μ-loop
 element-write-book-6 c = search done-low
+
+element-copy-out-book-2 : tie.Need-element-copy-out-book-2 Inv-loop μ-loop
+element-copy-out-book-2 c = search done-run
 
 add-book-2 : tie.Need-add-book-2 Inv-loop μ-loop
 add-book-2 c = search done-fits
@@ -119,7 +119,7 @@ element-write-book-7 : tie.Need-element-write-book-7 Inv-loop μ-loop
 element-write-book-7 c = search done-run
 
 past-done-requires : tie.Need-past-done-requires Inv-loop μ-loop
-past-done-requires c κs = search done-ahead
+past-done-requires c κs = search done-low
 
 loop-less-5 : tie.Need-loop-less-5 Inv-loop μ-loop
 loop-less-5 c = search done-less
@@ -154,7 +154,7 @@ read-commands-spec =
     empty-requires
     start-requires
     loop-holds
-    command-at-requires
+    next-command-requires
     enum-known-command
     element-write-book
     past-pair-requires
@@ -165,11 +165,11 @@ read-commands-spec =
     loop-less-2
     loop-again-2
     enum-known-command-2
-    sub-last
-    element-copy-out-len
     element-write-book-2
     mul-book
     element-write-book-3
+    sub-book
+    element-copy-out-book
     add-book
     element-write-book-4
     past-step-requires
@@ -182,8 +182,8 @@ read-commands-spec =
     loop-again-4
     enum-known-command-4
     wide-requires
-    element-copy-out-done
     element-write-book-6
+    element-copy-out-book-2
     add-book-2
     element-write-book-7
     past-done-requires

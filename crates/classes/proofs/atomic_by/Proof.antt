@@ -4,8 +4,9 @@ use Prim.Native.Nat.{_-_}
 use native.Mathlib.Omega.{arith}
 use borrow.Author.Tests.{not-true, not-false}
 use borrow.Author.Needs.{needs}
+use Rattle.graph.proofs.Answered.{refute}
 use Rattle.classes.specs.Inner.{NonePair, InterleavedIn}
-use Rattle.classes.proofs.Answered.{refute, no-pair-yet, no-pair-more}
+use Rattle.classes.proofs.Searched.{no-pair-yet, no-pair-more}
 use Rattle.classes.proofs.ClassLaws.{atomic-yes, atomic-no}
 use Rattle.classes.proofs.atomic_by.Statement.{statement}
 use Rattle.classes.proofs.atomic_by.Tie as tie

@@ -1,41 +1,21 @@
 -- As in `serial`, with the test for conflict serializable.
 use borrow.Author.Needs.{needs}
-use Rattle.classes.proofs.BookLaws.{reply-refused, reply-accepted}
+use Rattle.classes.proofs.BookLaws.{replied}
 use Rattle.classes.proofs.conflict_serializable.Statement.{statement}
 use Rattle.classes.proofs.conflict_serializable.Tie as tie
 
 read-requires : tie.Need-read-requires
 read-requires c κs = search needs
 
-enum-known-answer : tie.Need-enum-known-answer
-enum-known-answer c = search needs
-
-enum-told : tie.Need-enum-told
-enum-told c = search needs
-
 is-conflict-serializable-requires : tie.Need-is-conflict-serializable-requires
 is-conflict-serializable-requires c κs = search needs
 
-yes-or-no-requires : tie.Need-yes-or-no-requires
-yes-or-no-requires c κs = search needs
+reply-to-requires : tie.Need-reply-to-requires
+reply-to-requires c κs = search needs
 
 returns : tie.Need-returns
-returns c = search reply-refused
-
-returns-2 : tie.Need-returns-2
-returns-2 c =
-    let d = c .before .before .before in
-    let r = d .before .before in
-    reply-accepted _ _ _ (r .read .ensures) (d .enum-told .given .1) _ (c .before .is-conflict-serializable .ensures) _ (c .yes-or-no .ensures)
+returns c = search replied
 
 pub conflict-serializable-spec : {M : Type 1} → statement M
 conflict-serializable-spec =
-    tie.close
-    (tie.spec
-    read-requires
-    enum-known-answer
-    enum-told
-    is-conflict-serializable-requires
-    yes-or-no-requires
-    returns
-    returns-2)
+    tie.close (tie.spec read-requires is-conflict-serializable-requires reply-to-requires returns)

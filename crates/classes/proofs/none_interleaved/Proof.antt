@@ -2,8 +2,9 @@
 use Prim.Native.Nat.{_-_}
 use native.Mathlib.Omega.{arith}
 use borrow.Author.Needs.{needs}
+use Rattle.graph.proofs.Answered.{answer-yes, answer-no, refute}
 use Rattle.classes.specs.Inner.{NoneBelow, InterleavedIn}
-use Rattle.classes.proofs.Answered.{answer-yes, answer-no, refute, none-yet, none-more}
+use Rattle.classes.proofs.Searched.{none-yet, none-more}
 use Rattle.classes.proofs.none_interleaved.Statement.{statement}
 use Rattle.classes.proofs.none_interleaved.Tie as tie
 

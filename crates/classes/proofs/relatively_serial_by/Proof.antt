@@ -3,8 +3,9 @@ use Prim.Native.Nat.{_-_}
 use native.Mathlib.Omega.{arith}
 use borrow.Author.Tests.{not-true, not-false}
 use borrow.Author.Needs.{needs}
+use Rattle.graph.proofs.Answered.{refute}
 use Rattle.classes.specs.Inner.{NonePair, ViolatesIn}
-use Rattle.classes.proofs.Answered.{refute, no-pair-yet, no-pair-more}
+use Rattle.classes.proofs.Searched.{no-pair-yet, no-pair-more}
 use Rattle.classes.proofs.ClassLaws.{relserial-yes, relserial-no}
 use Rattle.classes.proofs.relatively_serial_by.Statement.{statement}
 use Rattle.classes.proofs.relatively_serial_by.Tie as tie

@@ -1,41 +1,21 @@
 -- As in `order_check`, with the cycle check.
 use borrow.Author.Needs.{needs}
-use Rattle.classes.proofs.BookLaws.{reply-refused, reply-accepted}
+use Rattle.classes.proofs.BookLaws.{replied}
 use Rattle.evidence.proofs.cycle_check.Statement.{statement}
 use Rattle.evidence.proofs.cycle_check.Tie as tie
 
 read-requires : tie.Need-read-requires
 read-requires c κs = search needs
 
-enum-known-answer : tie.Need-enum-known-answer
-enum-known-answer c = search needs
-
-enum-told : tie.Need-enum-told
-enum-told c = search needs
-
 is-cycle-requires : tie.Need-is-cycle-requires
 is-cycle-requires c κs = search needs
 
-yes-or-no-requires : tie.Need-yes-or-no-requires
-yes-or-no-requires c κs = search needs
+reply-to-requires : tie.Need-reply-to-requires
+reply-to-requires c κs = search needs
 
 returns : tie.Need-returns
-returns c = search reply-refused
-
-returns-2 : tie.Need-returns-2
-returns-2 c =
-    let d = c .before .before .before in
-    let r = d .before .before in
-    reply-accepted _ _ _ (r .read .ensures) (d .enum-told .given .1) _ (c .before .is-cycle .ensures) _ (c .yes-or-no .ensures)
+returns c = search replied
 
 pub cycle-check-spec : {M : Type 1} → statement M
 cycle-check-spec =
-    tie.close
-    (tie.spec
-    read-requires
-    enum-known-answer
-    enum-told
-    is-cycle-requires
-    yes-or-no-requires
-    returns
-    returns-2)
+    tie.close (tie.spec read-requires is-cycle-requires reply-to-requires returns)

@@ -1,6 +1,7 @@
 -- The table of arcs is that of the book's graph.
 use borrow.Author.Needs.{needs}
-use Rattle.evidence.proofs.BookLaws.{few-done, book-arc}
+use Rattle.graph.proofs.BookTables.{book-done}
+use Rattle.evidence.proofs.BookLaws.{book-arc}
 use Rattle.evidence.proofs.is_arc.Statement.{statement}
 use Rattle.evidence.proofs.is_arc.Tie as tie
 
@@ -8,7 +9,7 @@ arcs-requires : tie.Need-arcs-requires
 arcs-requires c κs = search needs
 
 arc-by-requires : tie.Need-arc-by-requires
-arc-by-requires c κs = few-done _ (c .before .before .before .pre)
+arc-by-requires c κs = book-done _ (c .before .before .before .pre)
 
 returns : tie.Need-returns
 returns c = book-arc _ (c .before .before .before .before .pre) _ (c .before .before .arcs .ensures) _ _ _ (c .arc-by .ensures)

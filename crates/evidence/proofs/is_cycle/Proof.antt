@@ -1,6 +1,7 @@
 -- The table of arcs is that of the book's graph.
 use borrow.Author.Needs.{needs}
-use Rattle.evidence.proofs.BookLaws.{few-done, book-cycle}
+use Rattle.graph.proofs.BookTables.{book-done}
+use Rattle.evidence.proofs.BookLaws.{book-cycle}
 use Rattle.evidence.proofs.is_cycle.Statement.{statement}
 use Rattle.evidence.proofs.is_cycle.Tie as tie
 
@@ -8,7 +9,7 @@ arcs-requires : tie.Need-arcs-requires
 arcs-requires c κs = search needs
 
 cycle-by-requires : tie.Need-cycle-by-requires
-cycle-by-requires c κs = few-done _ (c .before .before .before .before .pre)
+cycle-by-requires c κs = book-done _ (c .before .before .before .before .pre)
 
 returns : tie.Need-returns
 returns c = book-cycle _ (c .before .before .before .before .before .pre) _ (c .before .before .arcs .ensures) _ _ (c .cycle-by .ensures)

@@ -1,21 +1,23 @@
 -- The invariant: the first i numbers are l's, and the others are as they were.
 use Prim.Native.Nat.{_-_}
 use native.Mathlib.Omega.{arith}
-use mathlib.Core.Path.{ap}
+use mathlib.Core.Path.{_≡_, refl, ap}
+use lib.ListN.{length}
 use borrow.Author.Needs.{needs}
 use Rattle.evidence.specs.Inner.{with-array}
-use Rattle.evidence.proofs.HistoryLaws.{Storing, storing-none, storing-more, storing-all}
+use Rattle.judge.proofs.Copying.{Copying, copying-none, copying-next}
+use Rattle.evidence.proofs.HistoryLaws.{copied-whole}
 use Rattle.evidence.proofs.with_history.Statement.{statement}
 use Rattle.evidence.proofs.with_history.Tie as tie
 
 abbrev Inv-loop : tie.InvT-loop
-Inv-loop b l history₀ i₀ i-end history i = Storing l (b .history) history i-end i
+Inv-loop b l history₀ i₀ i-end history i = (i-end ≡ length l) × Copying l (b .history) history i-end i
 
 abbrev μ-loop : tie.MeasureT-loop
 μ-loop b l history₀ i₀ i-end history i = i-end - i
 
 loop-holds : tie.Need-loop-holds Inv-loop μ-loop
-loop-holds c = storing-none _ _
+loop-holds c = (refl, copying-none _ _ _)
 
 shared-slice-read-history : tie.Need-shared-slice-read-history Inv-loop μ-loop
 shared-slice-read-history c = search needs
@@ -30,10 +32,10 @@ loop-less : tie.Need-loop-less Inv-loop μ-loop
 loop-less c = search needs
 
 loop-again : tie.Need-loop-again Inv-loop μ-loop
-loop-again c = storing-more _ _ _ _ _ (omega arith) (c .before .before .loop .inv) (c .before .loop-test .taken)
+loop-again c = let w = c .before .before .loop .inv in (w .0, copying-next _ _ _ _ _ (omega arith) (omega arith) (w .1) (c .before .loop-test .taken))
 
 returns : tie.Need-returns Inv-loop μ-loop
-returns c = ap (with-array (c .before .before .before .args .b)) (storing-all _ _ _ _ _ (c .before .loop .inv) (c .loop-test .left))
+returns c = ap (with-array (c .before .before .before .args .b)) (copied-whole _ _ _ _ _ (c .before .loop .inv .0) (c .before .loop .inv .1) (c .loop-test .left))
 
 pub with-history-spec : {M : Type 1} → statement M
 with-history-spec =

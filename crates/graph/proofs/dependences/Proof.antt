@@ -1,5 +1,6 @@
 -- The links by place are the direct dependences of the book's contents, so the rows read from them are its dependences.
 use native.Mathlib.Omega.{arith}
+use Rattle.book.specs.Format.{kind-limit, step-limit}
 use Rattle.graph.proofs.Counting.{zeros-small}
 use Rattle.graph.proofs.BookTables.{book-sum, book-history, book-done, book-kinds, book-room, book-dependences}
 use borrow.Author.Needs.{needs}
@@ -10,7 +11,7 @@ starts-requires : tie.Need-starts-requires
 starts-requires c κs = search book-sum
 
 by-place-requires : tie.Need-by-place-requires
-by-place-requires c κs = (search book-history, search book-room, search book-kinds, zeros-small 16 128 (omega arith))
+by-place-requires c κs = (search book-history, search book-room, search book-kinds, zeros-small kind-limit step-limit (omega arith))
 
 dependence-rows-requires : tie.Need-dependence-rows-requires
 dependence-rows-requires c κs = (search book-done, search needs)

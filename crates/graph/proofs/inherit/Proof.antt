@@ -1,6 +1,7 @@
 -- Each turn sets one more of the row, by the flag of the run.
 use Prim.Native.Nat.{_-_}
 use mathlib.Core.Logic.{⊎-elim}
+use Rattle.book.specs.Format.{run-limit}
 use Rattle.graph.specs.Tables.{RowSet, inherited}
 use Rattle.graph.proofs.UnitRows.{row-none, inherit-same, inherit-own, row-end}
 use borrow.Author.Needs.{needs}
@@ -11,7 +12,7 @@ abbrev Inv-loop : tie.InvT-loop
 Inv-loop cuts at t₀ p from o₀ t o = RowSet t₀ t p (inherited cuts at t₀ p from) o
 
 abbrev μ-loop : tie.MeasureT-loop
-μ-loop cuts at t₀ p from o₀ t o = 16 - o
+μ-loop cuts at t₀ p from o₀ t o = run-limit - o
 
 loop-holds : tie.Need-loop-holds Inv-loop μ-loop
 loop-holds c = search row-none

@@ -2,13 +2,14 @@
 use Prim.Native.Nat.{_-_}
 use mathlib.Core.Path.{_≡_}
 use lib.ListN.{length, take}
+use Rattle.book.specs.Format.{run-limit}
 use Rattle.graph.proofs.Numbering.{NumberedBelow, numbered-none, number-fits, number-index, number-more, numbered-all}
 use borrow.Author.Needs.{needs}
 use Rattle.graph.proofs.number.Statement.{statement}
 use Rattle.graph.proofs.number.Tie as tie
 
 abbrev Inv-loop : tie.InvT-loop
-Inv-loop hist n ordinals₀ places₀ counts₀ p₀ ordinals places counts p = (length counts ≡ 16) × NumberedBelow (take n hist) ordinals places counts n p
+Inv-loop hist n ordinals₀ places₀ counts₀ p₀ ordinals places counts p = (length counts ≡ run-limit) × NumberedBelow (take n hist) ordinals places counts n p
 
 abbrev μ-loop : tie.MeasureT-loop
 μ-loop hist n ordinals₀ places₀ counts₀ p₀ ordinals places counts p = n - p

@@ -1,4 +1,4 @@
--- What the table has is below 16.
+-- What the table has is below the limit.
 use Rattle.graph.proofs.Counting.{number-at}
 use borrow.Author.Needs.{needs}
 use Rattle.graph.proofs.number_at.Statement.{statement}

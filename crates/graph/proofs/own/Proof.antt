@@ -1,5 +1,6 @@
 -- Each turn sets one more of the row.
 use Prim.Native.Nat.{_-_}
+use Rattle.book.specs.Format.{run-limit}
 use Rattle.graph.specs.Tables.{RowSet}
 use Rattle.graph.proofs.UnitRows.{row-none, own-more, row-end}
 use borrow.Author.Needs.{needs}
@@ -10,7 +11,7 @@ abbrev Inv-loop : tie.InvT-loop
 Inv-loop t₀ p o₀ t o = RowSet t₀ t p (λ _. p) o
 
 abbrev μ-loop : tie.MeasureT-loop
-μ-loop t₀ p o₀ t o = 16 - o
+μ-loop t₀ p o₀ t o = run-limit - o
 
 loop-holds : tie.Need-loop-holds Inv-loop μ-loop
 loop-holds c = search row-none

@@ -1,5 +1,6 @@
 -- After r turns s is the sum of the first r lengths.
 use Prim.Native.Nat.{_-_}
+use Rattle.book.specs.Format.{run-limit}
 use Rattle.graph.proofs.Steps.{StartsBelow, starts-none, starts-fit, starts-more, starts-all}
 use borrow.Author.Needs.{needs}
 use Rattle.graph.proofs.starts.Statement.{statement}
@@ -9,7 +10,7 @@ abbrev Inv-loop : tie.InvT-loop
 Inv-loop lens t₀ s₀ r₀ t s r = StartsBelow lens t s r
 
 abbrev μ-loop : tie.MeasureT-loop
-μ-loop lens t₀ s₀ r₀ t s r = 16 - r
+μ-loop lens t₀ s₀ r₀ t s r = run-limit - r
 
 loop-holds : tie.Need-loop-holds Inv-loop μ-loop
 loop-holds c = search starts-none

@@ -5,8 +5,6 @@ use native.Mathlib.Nat.{le-refl}
 use Rattle.report.proofs.WithinLaws.{exactly, behind-within, within-is}
 use Rattle.report.proofs.put_class.Statement.{statement}
 use Rattle.report.proofs.put_class.Tie as tie
-use Rattle.report.proofs.put_answer.Reads as put-answer-reads
-use Rattle.report.proofs.put_bytes.Reads as put-bytes-reads
 
 put-bytes-requires : tie.Need-put-bytes-requires
 put-bytes-requires c κs = search needs

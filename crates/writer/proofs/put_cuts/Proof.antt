@@ -1,6 +1,7 @@
--- The loop puts the part of each index of the table in turn; the parts of all 8192 are the bytes of the group.
+-- The loop puts the part of each index of the table in turn; the parts of all are the bytes of the group.
 use Prim.Native.Nat.{_-_}
 use native.Mathlib.Omega.{arith}
+use Rattle.book.specs.Book.{cuts-size}
 use borrow.Author.Needs.{needs}
 use lib.ListN.{getD}
 use Rattle.writer.specs.Render.{cut-bytes}
@@ -12,13 +13,13 @@ use Rattle.writer.proofs.put_cuts.Statement.{statement}
 use Rattle.writer.proofs.put_cuts.Tie as tie
 
 abbrev Inv-loop : tie.InvT-loop
-Inv-loop cuts out₀ at₀ i₀ out at i = Putting (cut-bytes (cuts-of cuts)) (λ k. cut-part (getD cuts k 0) k) 8192 out₀ out at i
+Inv-loop cuts out₀ at₀ i₀ out at i = Putting (cut-bytes (cuts-of cuts)) (λ k. cut-part (getD cuts k 0) k) cuts-size out₀ out at i
 
 abbrev μ-loop : tie.MeasureT-loop
-μ-loop cuts out₀ at₀ i₀ out at i = 8192 - i
+μ-loop cuts out₀ at₀ i₀ out at i = cuts-size - i
 
 loop-holds : tie.Need-loop-holds Inv-loop μ-loop
-loop-holds c = putting-none (cut-parts (c .before .args .cuts .now) 8192 (c .before .pre .0)) (c .before .pre .1)
+loop-holds c = putting-none (cut-parts (c .before .args .cuts .now) cuts-size (c .before .pre .0)) (c .before .pre .1)
 
 element-copy-out-put-cut : tie.Need-element-copy-out-put-cut Inv-loop μ-loop
 element-copy-out-put-cut c = search needs

@@ -17,7 +17,7 @@ abbrev μ-loop : tie.MeasureT-loop
 μ-loop history done out₀ at₀ i₀ out at i = done - i
 
 loop-holds : tie.Need-loop-holds Inv-loop μ-loop
-loop-holds c = putting-none (done-parts (c .before .args .history .now) (c .before .args .done) (omega (arith, c .before .pre .0 .history128, c .before .pre .0 .done128))) (c .before .pre .1)
+loop-holds c = putting-none (done-parts (c .before .args .history .now) (c .before .args .done) (omega (arith, c .before .pre .0 .long, c .before .pre .0 .within))) (c .before .pre .1)
 
 element-copy-out-put-two : tie.Need-element-copy-out-put-two Inv-loop μ-loop
 element-copy-out-put-two c = search needs

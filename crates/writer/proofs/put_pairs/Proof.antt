@@ -1,6 +1,7 @@
--- The loop puts the part of each index of the table in turn; the parts of all 256 are the bytes of the group.
+-- The loop puts the part of each index of the table in turn; the parts of all are the bytes of the group.
 use Prim.Native.Nat.{_-_}
 use native.Mathlib.Omega.{arith}
+use Rattle.book.specs.Book.{pairs-size}
 use borrow.Author.Needs.{needs}
 use lib.ListN.{getD}
 use Rattle.writer.specs.Render.{pair-bytes}
@@ -12,13 +13,13 @@ use Rattle.writer.proofs.put_pairs.Statement.{statement}
 use Rattle.writer.proofs.put_pairs.Tie as tie
 
 abbrev Inv-loop : tie.InvT-loop
-Inv-loop pairs out₀ at₀ i₀ out at i = Putting (pair-bytes (pairs-of pairs)) (λ k. pair-part (getD pairs k 0) k) 256 out₀ out at i
+Inv-loop pairs out₀ at₀ i₀ out at i = Putting (pair-bytes (pairs-of pairs)) (λ k. pair-part (getD pairs k 0) k) pairs-size out₀ out at i
 
 abbrev μ-loop : tie.MeasureT-loop
-μ-loop pairs out₀ at₀ i₀ out at i = 256 - i
+μ-loop pairs out₀ at₀ i₀ out at i = pairs-size - i
 
 loop-holds : tie.Need-loop-holds Inv-loop μ-loop
-loop-holds c = putting-none (pair-parts (c .before .args .pairs .now) 256 (c .before .pre .0)) (c .before .pre .1)
+loop-holds c = putting-none (pair-parts (c .before .args .pairs .now) pairs-size (c .before .pre .0)) (c .before .pre .1)
 
 element-copy-out-put-pair : tie.Need-element-copy-out-put-pair Inv-loop μ-loop
 element-copy-out-put-pair c = search needs

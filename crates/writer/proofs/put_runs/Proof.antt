@@ -36,8 +36,8 @@ this-run kinds positions r e f p = rw (← e, ← f) p
 turn-held : {runs : ℕ} {lens kinds positions : List ℕ} (r base count : ℕ) → RunsHeld runs lens kinds positions → r < runs → base ≡ sum (take r lens) → count ≡ getD lens r 0
     → StepsHeld kinds positions (base + count)
 turn-held {runs} {lens} r base count h l e f = record {
-  kinds128 = h .steps .kinds128;
-  positions128 = h .steps .positions128;
+  kinds-long = h .steps .kinds-long;
+  positions-long = h .steps .positions-long;
   within = omega (arith, h .steps .within, sum-take-lt lens r runs l);
 }
 
@@ -45,7 +45,7 @@ loop-holds : tie.Need-loop-holds Inv-loop μ-loop
 loop-holds c =
     let s = c .before in
     let held = s .pre .0 in
-    (putting-none (run-parts (s .args .lens .now) (s .args .kinds .now) (s .args .positions .now) (s .args .runs) (omega (arith, held .lens16, held .runs16))) (s .pre .1), refl)
+    (putting-none (run-parts (s .args .lens .now) (s .args .kinds .now) (s .args .positions .now) (s .args .runs) (omega (arith, held .lens-long, held .few-runs))) (s .pre .1), refl)
 
 element-copy-out-wide : tie.Need-element-copy-out-wide Inv-loop μ-loop
 element-copy-out-wide c = search needs
@@ -54,7 +54,7 @@ wide-requires : tie.Need-wide-requires Inv-loop μ-loop
 wide-requires c κs = search needs
 
 cast-put-run : tie.Need-cast-put-run Inv-loop μ-loop
-cast-put-run c = omega (arith, c .before .before .before .before .before .pre .0 .runs16)
+cast-put-run c = omega (arith, c .before .before .before .before .before .pre .0 .few-runs)
 
 sub-put-run : tie.Need-sub-put-run Inv-loop μ-loop
 sub-put-run c = search needs

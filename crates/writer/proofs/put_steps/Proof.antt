@@ -23,7 +23,7 @@ loop-holds c =
     let s = c .before in
     let held = s .pre .0 in
     putting-none
-    (step-parts (s .args .kinds .now) (s .args .positions .now) (s .args .base) (s .args .count) (held .kinds128 ∙ sym (held .positions128)) (omega (arith, held .kinds128, held .within)))
+    (step-parts (s .args .kinds .now) (s .args .positions .now) (s .args .base) (s .args .count) (held .kinds-long ∙ sym (held .positions-long)) (omega (arith, held .kinds-long, held .within)))
     (s .pre .1)
 
 add-j : tie.Need-add-j Inv-loop μ-loop

@@ -1,25 +1,12 @@
--- Yes and no, and a search below a bound that has found nothing so far.
+-- A search below a bound that has found nothing so far.
 use Prim.Native.Nat.{ℕ, _+_, _<_}
 use native.Mathlib.Nat.{not-suc-le-zero}
 use native.Mathlib.Omega.{arith}
 use native.Mathlib.Numerals.{add-one}
-use mathlib.Core.Path.{_≡_, refl, sym, _∙_}
+use mathlib.Core.Path.{_≡_}
 use mathlib.Core.Logic.{_⊎_, inl, inr}
-use mathlib.Core.Bool.{Bool, true, false}
 use Rattle.theory.proofs.Finite.{below-suc}
-use Rattle.classes.specs.Inner.{Answers, NoneBelow, NonePair}
-
-pub answer-yes : {P : Type 0} → P → Answers P true
-answer-yes p = record { sound = λ e. p; complete = λ p. refl }
-
-pub false-true : false ≡ true → ⊥
-false-true e = let z : _≡_ {A = ℕ} 0 1 = cc in omega arith
-
-pub answer-no : {P : Type 0} → ¬ P → Answers P false
-answer-no n = record { sound = λ e. absurd (false-true e); complete = λ p. absurd (n p) }
-
-pub refute : {P : Type 0} {b : Bool} → Answers P b → b ≡ false → ¬ P
-refute a e p = false-true (sym e ∙ a .complete p)
+use Rattle.classes.specs.Inner.{NoneBelow, NonePair}
 
 module _ (P : ℕ → Type 0) where
   pub none-yet : NoneBelow P 0
