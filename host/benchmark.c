@@ -7,7 +7,7 @@
 #include <stdio.h>
 #include <time.h>
 
-enum { BOOKS = 24, ROUNDS = 1, REPEATS = 60 };
+enum { BOOKS = 24, REPEATS = 60 };
 
 static uint8_t books[BOOKS][BOOK_ROOM];
 static size_t lengths[BOOKS];
@@ -20,52 +20,52 @@ static double now(void) {
     return (double)t.tv_sec * 1e6 + (double)t.tv_nsec / 1e3;
 }
 
-static void proved_read(const uint8_t *s, size_t n) { sink += deck_read(s, n).value; }
+/* Each of these makes one call on book j. */
+static void proved_read(int j) { sink += deck_read(books[j], lengths[j]).value; }
 
-static void plain_reads(const uint8_t *s, size_t n) {
+static void plain_reads(int j) {
     plain_book b;
-    plain_read(s, n, &b);
+    plain_read(books[j], lengths[j], &b);
     sink += (uint64_t)b.n;
 }
 
-static void proved_judge(const uint8_t *s, size_t n) {
-    uint8_t order[128], cycle[128];
-    sink += deck_judge(s, n, order, 128, cycle, 128).count;
+static void proved_judge(int j) {
+    uint8_t order[DECK_BUFFER], cycle[DECK_BUFFER];
+    sink += deck_judge(books[j], lengths[j], order, sizeof order, cycle, sizeof cycle).count;
 }
 
 /* The history's last step, on a gate that keeps all steps before it. */
-static void proved_step(const uint8_t *s, size_t n) {
-    deck_gate g = gates[(size_t)(s - books[0]) / BOOK_ROOM];
-    sink += deck_step(&g, s[n - 2]).value;
+static void proved_step(int j) {
+    deck_gate g = gates[j];
+    sink += deck_step(&g, books[j][lengths[j] - 2]).value;
 }
 
-static void plain_judges(const uint8_t *s, size_t n) {
-    uint8_t order[128], cycle[128];
+static void plain_judges(int j) {
+    uint8_t order[PLAIN_STEPS], cycle[PLAIN_STEPS];
     plain_book b;
     int count = 0;
-    if (!plain_read(s, n, &b).number)
+    if (!plain_read(books[j], lengths[j], &b).number)
         plain_judge(&b, order, cycle, &count);
     sink += (uint64_t)count;
 }
 
 /* The time of one call on each book, in microseconds a book. */
-static double timed(void (*call)(const uint8_t *, size_t)) {
+static double timed(void (*call)(int)) {
     double from = now();
-    for (int i = 0; i < ROUNDS; i++)
-        for (int j = 0; j < BOOKS; j++)
-            call(books[j], lengths[j]);
-    return (now() - from) / (ROUNDS * BOOKS);
+    for (int j = 0; j < BOOKS; j++)
+        call(j);
+    return (now() - from) / BOOKS;
 }
 
 /* The least of many times, taken in turn, so that other work on the machine disturbs both alike. */
-static void compare(const char *label, void (*proved)(const uint8_t *, size_t), const char *other, void (*plain)(const uint8_t *, size_t)) {
+static void compare(const char *label, void (*proved)(int), const char *other_label, void (*other)(int)) {
     double p = 1e9, c = 1e9;
     for (int k = 0; k < REPEATS; k++) {
-        double t = timed(proved), u = timed(plain);
+        double t = timed(proved), u = timed(other);
         p = t < p ? t : p;
         c = u < c ? u : c;
     }
-    printf("%-30s proved %7.2f us, %-9s %7.2f us, ratio %.2f\n", label, p, other, c, p / c);
+    printf("%-30s proved %7.2f us, %-9s %7.2f us, ratio %.2f\n", label, p, other_label, c, p / c);
 }
 
 /* Full books of 128 steps in 16 runs that the judge passes, or does not. */
@@ -73,7 +73,7 @@ static int fill(const shape *f, int want, uint64_t seed) {
     source s = {seed};
     int found = 0;
     for (int tries = 0; found < BOOKS && tries < 200000; tries++) {
-        uint8_t order[128], cycle[128];
+        uint8_t order[PLAIN_STEPS], cycle[PLAIN_STEPS];
         plain_book b;
         int count;
         lengths[found] = make_book(&s, f, books[found]);

@@ -11,9 +11,7 @@ uint64_t draw(source *s) {
 
 unsigned below(source *s, unsigned n) { return (unsigned)(draw(s) % n); }
 
-size_t make_book(source *s, const shape *f, uint8_t *out) {
-    uint8_t *o = out;
-    unsigned length[16], left[16], total = 0, open = 0;
+static uint8_t *put_pairs(source *s, const shape *f, uint8_t *o) {
     for (unsigned a = 0; a < f->kinds; a++)
         for (unsigned b = a; b < f->kinds; b++)
             if (below(s, 100) < f->pairs) {
@@ -21,6 +19,23 @@ size_t make_book(source *s, const shape *f, uint8_t *out) {
                 *o++ = (uint8_t)a;
                 *o++ = (uint8_t)b;
             }
+    return o;
+}
+
+static uint8_t *put_steps(source *s, unsigned steps, unsigned kinds, unsigned positions, uint8_t *o) {
+    while (steps-- > 0) {
+        unsigned position = below(s, positions);
+        *o++ = 0x53;
+        *o++ = (uint8_t)below(s, kinds);
+        *o++ = (uint8_t)(position >> 8);
+        *o++ = (uint8_t)position;
+    }
+    return o;
+}
+
+/* Puts each run's number of steps into `length`. */
+static uint8_t *put_runs(source *s, const shape *f, unsigned *length, uint8_t *o) {
+    unsigned total = 0;
     for (unsigned r = 0; r < f->runs; r++) {
         *o++ = 0x52;
         *o++ = (uint8_t)r;
@@ -28,14 +43,12 @@ size_t make_book(source *s, const shape *f, uint8_t *out) {
         if (total + length[r] > 128)
             length[r] = 128 - total;
         total += length[r];
-        for (unsigned i = 0; i < length[r]; i++) {
-            unsigned position = below(s, f->positions);
-            *o++ = 0x53;
-            *o++ = (uint8_t)below(s, f->kinds);
-            *o++ = (uint8_t)(position >> 8);
-            *o++ = (uint8_t)position;
-        }
+        o = put_steps(s, length[r], f->kinds, f->positions, o);
     }
+    return o;
+}
+
+static uint8_t *put_cuts(source *s, const shape *f, const unsigned *length, uint8_t *o) {
     for (unsigned r = 0; r < f->runs; r++)
         for (unsigned j = 1; j < length[r]; j++)
             for (unsigned v = 0; v < f->runs; v++)
@@ -45,10 +58,14 @@ size_t make_book(source *s, const shape *f, uint8_t *out) {
                     *o++ = (uint8_t)j;
                     *o++ = (uint8_t)v;
                 }
-    for (unsigned r = 0; r < f->runs; r++) {
-        left[r] = length[r];
-        open += length[r];
-    }
+    return o;
+}
+
+/* Counts the steps left of each run down in `left`. */
+static uint8_t *put_history(source *s, const shape *f, unsigned *left, uint8_t *o) {
+    unsigned open = 0;
+    for (unsigned r = 0; r < f->runs; r++)
+        open += left[r];
     if (f->undone && below(s, 100) < f->undone)
         open = below(s, open + 1);
     while (open > 0) {
@@ -59,6 +76,33 @@ size_t make_book(source *s, const shape *f, uint8_t *out) {
             left[r]--;
             open--;
         }
+    }
+    return o;
+}
+
+size_t make_book(source *s, const shape *f, uint8_t *out) {
+    unsigned length[16];
+    uint8_t *o = put_pairs(s, f, out);
+    o = put_runs(s, f, length, o);
+    o = put_cuts(s, f, length, o);
+    o = put_history(s, f, length, o);
+    *o++ = 0x45;
+    return (size_t)(o - out);
+}
+
+size_t make_long_book(source *s, uint8_t *out) {
+    unsigned fault = below(s, 4), runs = fault == 0 ? 17 : fault == 1 ? 1 + below(s, 3) : 5;
+    uint8_t *o = out;
+    if (fault == 3) {
+        size_t len = 16385 + below(s, 1000);
+        memset(out, 0x45, len);
+        return len;
+    }
+    for (unsigned r = 0; r < runs; r++) {
+        unsigned steps = fault == 0 ? below(s, 8) : fault == 1 ? (r + 1 < runs ? below(s, 33) : 33) : r < 4 ? 32 : 1;
+        *o++ = 0x52;
+        *o++ = (uint8_t)r;
+        o = put_steps(s, steps, 16, 65536, o);
     }
     *o++ = 0x45;
     return (size_t)(o - out);

@@ -30,6 +30,9 @@ typedef struct {
 /* The length of a legal book of that shape, which goes to out, of BOOK_ROOM bytes. */
 size_t make_book(source *s, const shape *f, uint8_t *out);
 
+/* The length of a book over one of the limits, which goes to out: a 17th run, a 33rd step of a run, a 129th step, or over 16,384 bytes. */
+size_t make_long_book(source *s, uint8_t *out);
+
 /* A shape drawn by chance, small or large. */
 shape draw_shape(source *s);
 

@@ -3,21 +3,25 @@
 #include <stdio.h>
 
 int main(int argc, char **argv) {
-    static uint8_t book[16385];
+    static uint8_t book[DECK_BOOK + 1]; /* one byte more than a book may have is enough to refuse it by 1 */
     uint8_t order[DECK_BUFFER], cycle[DECK_BUFFER];
-    FILE *file = argc == 2 ? fopen(argv[1], "rb") : 0;
-    if (!file) {
+    if (argc != 2) {
         fprintf(stderr, "usage: example BOOK\n");
         return 2;
     }
-    size_t len = fread(book, 1, sizeof book, file);
+    FILE *file = fopen(argv[1], "rb");
+    size_t len = file ? fread(book, 1, sizeof book, file) : 0;
+    if (!file || ferror(file)) {
+        fprintf(stderr, "example: cannot read %s\n", argv[1]);
+        return 2;
+    }
     fclose(file);
     deck_judgement j = deck_judge(book, len, order, sizeof order, cycle, sizeof cycle);
     if (j.verdict == DECK_REFUSED) {
         printf("refused %d at %d\n", (int)j.number, (int)j.place);
         return 1;
     }
-    printf(j.verdict == DECK_PASSED ? "passed, order" : "tangled, cycle");
+    printf("%s", j.verdict == DECK_PASSED ? "passed, order" : "tangled, cycle");
     for (size_t i = 0; i < j.count; i++)
         printf(" %d", j.verdict == DECK_PASSED ? order[i] : cycle[i]);
     printf("\n");

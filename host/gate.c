@@ -16,38 +16,49 @@ static void print_state(const deck_gate *gate) {
     printf("\n");
 }
 
-int main(int argc, char **argv) {
-    static uint8_t book[16385];
-    static deck_gate gate;
-    char line[64], more;
+/* Makes the call that a line of input says, and prints the answer; 0 if the line is no call. */
+static int make_call(deck_gate *gate, const char *line) {
     unsigned run;
-    FILE *file = argc == 2 ? fopen(argv[1], "rb") : 0;
-    if (!file) {
+    char more;
+    int step = sscanf(line, "step %3u %c", &run, &more) == 1;
+    if ((!step && sscanf(line, "withdraw %3u %c", &run, &more) != 1) || run > 255)
+        return 0;
+    deck_answer a = step ? deck_step(gate, (uint8_t)run) : deck_withdraw(gate, (uint8_t)run);
+    if (a.number)
+        printf("refused %d\n", (int)a.number);
+    else if (step)
+        printf("place %d\n", (int)a.value);
+    else
+        printf("withdrawn\n");
+    fflush(stdout);
+    return 1;
+}
+
+int main(int argc, char **argv) {
+    static uint8_t book[DECK_BOOK + 1]; /* one byte more than a book may have is enough to refuse it by 1 */
+    static deck_gate gate;
+    char line[64];
+    if (argc != 2) {
         fprintf(stderr, "usage: gate BOOK\n");
         return 2;
     }
-    size_t len = fread(book, 1, sizeof book, file);
+    FILE *file = fopen(argv[1], "rb");
+    size_t len = file ? fread(book, 1, sizeof book, file) : 0;
+    if (!file || ferror(file)) {
+        fprintf(stderr, "gate: cannot read %s\n", argv[1]);
+        return 2;
+    }
     fclose(file);
     deck_answer a = deck_open(book, len, &gate);
     if (a.number) {
         printf("refused %d at %d\n", (int)a.number, (int)a.place);
         return 1;
     }
-    while (fgets(line, sizeof line, stdin)) {
-        int step = sscanf(line, "step %3u %c", &run, &more) == 1;
-        if ((!step && sscanf(line, "withdraw %3u %c", &run, &more) != 1) || run > 255) {
-            fprintf(stderr, "gate: no call: %s", line);
+    for (int number = 1; fgets(line, sizeof line, stdin); number++)
+        if (!make_call(&gate, line)) {
+            fprintf(stderr, "gate: line %d is no call: %s", number, line);
             return 2;
         }
-        a = step ? deck_step(&gate, (uint8_t)run) : deck_withdraw(&gate, (uint8_t)run);
-        if (a.number)
-            printf("refused %d\n", (int)a.number);
-        else if (step)
-            printf("place %d\n", (int)a.value);
-        else
-            printf("withdrawn\n");
-        fflush(stdout);
-    }
     print_state(&gate);
     return 0;
 }

@@ -17,102 +17,116 @@ static plain_refusal refuse(int number, size_t place) {
     return r;
 }
 
+/* What the commands so far leave for the next one. */
+typedef struct {
+    int group, last_pair, last_cut;
+} progress;
+
+/* One function a command, of its bytes c, as many as it has: the number of the refusal, or 0 and the book has what it adds. */
+static int read_pair(const uint8_t *c, plain_book *b, progress *p) {
+    int code = c[1] * 16 + c[2];
+    if (p->group > 0)
+        return 4;
+    if (c[2] > 15 || c[1] > c[2])
+        return 5;
+    if (code <= p->last_pair)
+        return 6;
+    p->last_pair = code;
+    b->conflicts[c[1]][c[2]] = b->conflicts[c[2]][c[1]] = 1;
+    return 0;
+}
+
+static int read_run(const uint8_t *c, plain_book *b, progress *p) {
+    if (p->group > 1)
+        return 4;
+    if (c[1] != b->runs)
+        return 7;
+    if (b->runs == PLAIN_RUNS)
+        return 8;
+    p->group = 1;
+    b->runs++;
+    return 0;
+}
+
+static int read_step(const uint8_t *c, plain_book *b, progress *p) {
+    int r = b->runs - 1;
+    if (p->group > 1 || b->runs == 0)
+        return 4;
+    if (c[1] > 15)
+        return 5;
+    if (b->length[r] == PLAIN_RUN_STEPS || b->steps == PLAIN_STEPS)
+        return 8;
+    p->group = 1;
+    b->kind[r][b->length[r]] = c[1];
+    b->position[r][b->length[r]] = (uint16_t)(c[2] << 8 | c[3]);
+    b->length[r]++;
+    b->steps++;
+    return 0;
+}
+
+static int read_cut(const uint8_t *c, plain_book *b, progress *p) {
+    int code = (c[1] * 256 + c[2]) * 256 + c[3];
+    if (p->group > 2)
+        return 4;
+    if (c[1] >= b->runs || c[3] >= b->runs || c[1] == c[3])
+        return 7;
+    if (c[2] == 0 || c[2] >= b->length[c[1]])
+        return 9;
+    if (code <= p->last_cut)
+        return 6;
+    p->last_cut = code;
+    p->group = 2;
+    b->cut[c[1]][c[2]][c[3]] = 1;
+    return 0;
+}
+
+static int read_done(const uint8_t *c, plain_book *b, progress *p) {
+    if (c[1] >= b->runs)
+        return 7;
+    if (b->done[c[1]] == b->length[c[1]])
+        return 10;
+    p->group = 3;
+    b->done[c[1]]++;
+    b->history[b->n++] = c[1];
+    return 0;
+}
+
 plain_refusal plain_read(const uint8_t *s, size_t len, plain_book *b) {
+    progress p = {0, -1, -1};
     size_t at = 0;
-    int group = 0, last_pair = -1, last_cut = -1;
     memset(b, 0, sizeof *b);
     if (len > PLAIN_BYTES)
         return refuse(1, 0);
-    for (;;) {
-        if (at >= len)
-            return refuse(3, at);
-        size_t left = len - at;
+    while (at < len) {
         const uint8_t *c = s + at;
+        size_t left = len - at, size;
+        int number;
         switch (c[0]) {
-        case 0x43: {
-            if (left < 3)
-                return refuse(3, at);
-            if (group > 0)
-                return refuse(4, at);
-            if (c[2] > 15 || c[1] > c[2])
-                return refuse(5, at);
-            int code = c[1] * 16 + c[2];
-            if (code <= last_pair)
-                return refuse(6, at);
-            last_pair = code;
-            b->conflicts[c[1]][c[2]] = b->conflicts[c[2]][c[1]] = 1;
-            at += 3;
+        case 0x43:
+            number = left < (size = 3) ? 3 : read_pair(c, b, &p);
             break;
-        }
         case 0x52:
-            if (left < 2)
-                return refuse(3, at);
-            if (group > 1)
-                return refuse(4, at);
-            if (c[1] != b->runs)
-                return refuse(7, at);
-            if (b->runs == PLAIN_RUNS)
-                return refuse(8, at);
-            group = 1;
-            b->runs++;
-            at += 2;
+            number = left < (size = 2) ? 3 : read_run(c, b, &p);
             break;
-        case 0x53: {
-            if (left < 4)
-                return refuse(3, at);
-            if (group > 1 || b->runs == 0)
-                return refuse(4, at);
-            if (c[1] > 15)
-                return refuse(5, at);
-            int r = b->runs - 1;
-            if (b->length[r] == PLAIN_RUN_STEPS || b->steps == PLAIN_STEPS)
-                return refuse(8, at);
-            group = 1;
-            b->kind[r][b->length[r]] = c[1];
-            b->position[r][b->length[r]] = (uint16_t)(c[2] << 8 | c[3]);
-            b->length[r]++;
-            b->steps++;
-            at += 4;
+        case 0x53:
+            number = left < (size = 4) ? 3 : read_step(c, b, &p);
             break;
-        }
-        case 0x42: {
-            if (left < 4)
-                return refuse(3, at);
-            if (group > 2)
-                return refuse(4, at);
-            if (c[1] >= b->runs || c[3] >= b->runs || c[1] == c[3])
-                return refuse(7, at);
-            if (c[2] == 0 || c[2] >= b->length[c[1]])
-                return refuse(9, at);
-            int code = (c[1] * 256 + c[2]) * 256 + c[3];
-            if (code <= last_cut)
-                return refuse(6, at);
-            last_cut = code;
-            group = 2;
-            b->cut[c[1]][c[2]][c[3]] = 1;
-            at += 4;
+        case 0x42:
+            number = left < (size = 4) ? 3 : read_cut(c, b, &p);
             break;
-        }
         case 0x48:
-            if (left < 2)
-                return refuse(3, at);
-            if (c[1] >= b->runs)
-                return refuse(7, at);
-            if (b->done[c[1]] == b->length[c[1]])
-                return refuse(10, at);
-            group = 3;
-            b->done[c[1]]++;
-            b->history[b->n++] = c[1];
-            at += 2;
+            number = left < (size = 2) ? 3 : read_done(c, b, &p);
             break;
         case 0x45:
-            if (at + 1 < len)
-                return refuse(11, at + 1);
-            return refuse(0, 0);
+            return left > 1 ? refuse(11, at + 1) : refuse(0, 0);
         default:
             return refuse(2, at);
         }
+        if (number)
+            return refuse(number, at);
+        at += size;
     }
+    return refuse(3, at);
 }
 
 size_t plain_write(const plain_book *b, uint8_t *out) {

@@ -13,12 +13,16 @@ enum { TEXT = 4096, BOOKS = 8000 };
 static size_t run(const char *deck, const char *file, const uint8_t *book, size_t len, char *text) {
     char command[512];
     FILE *f = fopen(file, "wb");
-    if (!f || fwrite(book, 1, len, f) != len || fclose(f))
+    if (!f || fwrite(book, 1, len, f) != len || fclose(f)) {
+        fprintf(stderr, "program: cannot write %s\n", file);
         exit(2);
+    }
     snprintf(command, sizeof command, "'%s' < '%s'", deck, file);
     FILE *p = popen(command, "r");
-    if (!p)
+    if (!p) {
+        fprintf(stderr, "program: cannot run %s\n", deck);
         exit(2);
+    }
     size_t n = fread(text, 1, TEXT - 1, p);
     text[n] = 0;
     return pclose(p) ? 0 : n;
@@ -68,12 +72,14 @@ int main(int argc, char **argv) {
     static uint8_t book[BOOK_ROOM];
     static char text[TEXT];
     source s = {1994};
-    if (argc != 3)
+    if (argc != 3) {
+        fprintf(stderr, "usage: program DECK FILE\n");
         return 2;
+    }
     long passed = 0, failed = 0;
     for (long k = 0; k < BOOKS; k++) {
         shape f = draw_shape(&s);
-        size_t len = make_book(&s, &f, book);
+        size_t len = k % 60 ? make_book(&s, &f, book) : make_long_book(&s, book);
         if (k % 3)
             len = damage(&s, book, len);
         int ok = run(argv[1], argv[2], book, len, text) && right(text, book, len);

@@ -1,15 +1,30 @@
 #!/usr/bin/env python3
-"""Writes crates/read_books/stdin and stdout: books on both sides of every limit and for every refusal, and what document 01 says of each.
+"""Writes the files stdin and stdout of crates/read_books: books on both sides of every limit and for every refusal, and what document 01 says of each.
 
-    host/read_books.py            from the repository's folder
+    host/read_books.py FOLDER     to FOLDER/stdin and FOLDER/stdout
 
-`outcome` is document 01's reader once more, written from its text alone: a list of tests for each command, in its order.
+`outcome` is document 01's reader once more, written from its text alone: the tests that each command fails, and their order.
 """
-import itertools
-import os
+import sys
 
-# Document 01, "Deck book" and "When something is turned away".
+# Document 01, "Deck book": each command's group and its number of operands.
 COMMANDS = {0x43: (0, 2), 0x52: (1, 1), 0x53: (1, 3), 0x42: (2, 3), 0x48: (3, 1), 0x45: (4, 0)}
+
+
+def faults(command, operands, pairs, runs, cuts, history):
+    """The numbers of the tests from 4 on, but for a later group, that a whole command fails."""
+    if command == 0x43:
+        a, b = operands
+        return {5: a > 15 or b > 15 or a > b, 6: pairs and (a, b) <= pairs[-1]}
+    if command == 0x52:
+        return {7: operands[0] != len(runs), 8: len(runs) == 16}
+    if command == 0x53:
+        return {4: not runs, 5: operands[0] > 15, 8: runs and len(runs[-1]) == 32 or sum(map(len, runs)) == 128}
+    r = operands[0]
+    if command == 0x42:
+        j, o = operands[1:]
+        return {7: r >= len(runs) or o >= len(runs) or r == o, 9: j == 0 or r >= len(runs) or j >= len(runs[r]), 6: cuts and (r, j, o) <= cuts[-1]}
+    return {7: r >= len(runs), 10: r >= len(runs) or history.count(r) == len(runs[r])}
 
 
 def outcome(s):
@@ -22,48 +37,26 @@ def outcome(s):
         if s[at] not in COMMANDS:
             return f"refused 2 at {at}"
         command, (own_group, count) = s[at], COMMANDS[s[at]]
-        operands = s[at + 1 : at + 1 + count]
+        operands = tuple(s[at + 1 : at + 1 + count])
         if len(operands) < count:
             return f"refused 3 at {at}"
-        declared = lambda r: r < len(runs)
-        failed = [4] if own_group < group else []
-        if command == 0x43:
-            a, b = operands
-            failed += [5] if a > 15 or b > 15 or a > b else []
-            failed += [6] if pairs and (a, b) <= pairs[-1] else []
-        elif command == 0x52:
-            failed += [7] if operands[0] != len(runs) else []
-            failed += [8] if len(runs) == 16 else []
-        elif command == 0x53:
-            failed += [4] if not runs else []
-            failed += [5] if operands[0] > 15 else []
-            failed += [8] if runs and len(runs[-1]) == 32 or sum(map(len, runs)) == 128 else []
-        elif command == 0x42:
-            r, j, o = operands
-            failed += [7] if not declared(r) or not declared(o) or r == o else []
-            failed += [9] if j == 0 or not declared(r) or j >= len(runs[r]) else []
-            failed += [6] if cuts and (r, j, o) <= cuts[-1] else []
-        elif command == 0x48:
-            (r,) = operands
-            failed += [7] if not declared(r) else []
-            failed += [10] if not declared(r) or history.count(r) == len(runs[r]) else []
-        elif at + 1 < len(s):
-            return f"refused 11 at {at + 1}"
-        else:
-            return f"accepted, done {len(history)}"
+        if command == 0x45:
+            return f"accepted, done {len(history)}" if at + 1 == len(s) else f"refused 11 at {at + 1}"
+        failed = faults(command, operands, pairs, runs, cuts, history)
+        failed[4] = failed.get(4) or own_group < group
         for number in (4, 5, 7, 8, 9, 6, 10):
-            if number in failed:
+            if failed.get(number):
                 return f"refused {number} at {at}"
         if command == 0x43:
-            pairs.append((a, b))
+            pairs.append(operands)
         elif command == 0x52:
             runs.append([])
         elif command == 0x53:
-            runs[-1].append(tuple(operands))
+            runs[-1].append(operands)
         elif command == 0x42:
-            cuts.append((r, j, o))
+            cuts.append(operands)
         else:
-            history.append(r)
+            history.append(operands[0])
         group = own_group
         at += 1 + count
 
@@ -204,16 +197,16 @@ BOOKS += [
     ("2 after a whole book", END + b"\x00"),
 ]
 
-ROOT = os.path.join(os.path.dirname(os.path.abspath(__file__)), "..", "crates", "read_books")
-
 
 def main():
+    if len(sys.argv) != 2:
+        sys.exit("usage: read_books.py FOLDER")
     labels = [label for label, _ in BOOKS]
-    assert len(set(labels)) == len(labels), [x for x, g in itertools.groupby(sorted(labels)) if len(list(g)) > 1]
-    with open(os.path.join(ROOT, "stdin"), "wb") as f:
+    assert len(set(labels)) == len(labels), sorted(label for label in labels if labels.count(label) > 1)
+    with open(f"{sys.argv[1]}/stdin", "wb") as f:
         for label, book in BOOKS:
             f.write(bytes([len(label)]) + label.encode() + len(book).to_bytes(2, "big") + book)
-    with open(os.path.join(ROOT, "stdout"), "w") as f:
+    with open(f"{sys.argv[1]}/stdout", "w") as f:
         f.writelines(f"{label}: {outcome(book)}\n" for label, book in BOOKS)
 
 

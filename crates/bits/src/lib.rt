@@ -24,7 +24,7 @@ pub enum Found {
     Nothing,
 }
 
-// These two do nothing: what owning a table or a row tells of its length, told to a function that has it by `&mut`.
+// These two have no effect: their contracts say how long the array is, for functions that hold it by `&mut`.
 fn sized(t: Table)
     ensures { λ r. ⌜ length t ≡ table-words ⌝ }
 {}

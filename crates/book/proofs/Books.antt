@@ -10,16 +10,11 @@ use lib.ListN.{length, getD, take, set, length-set}
 use lib.Seq.{take-suc, length-take-le, getD-set-same, getD-set-other}
 use lib.Dec.{leb}
 use Rattle.theory.specs.History.{count}
-use Rattle.book.specs.Format.{Contents, sum, last, lengths, add-pair, add-run, add-step, add-cut, add-done, above-pair, above-cut}
-use Rattle.book.specs.Book.{marked, pair-of, cut-of, steps-of, lengths-of, history-of, contents-of, Valid}
+use Rattle.book.specs.Format.{sum, last, lengths, add-pair, add-run, add-step, add-cut, add-done, above-pair, above-cut}
+use Rattle.book.specs.Book.{marked, pair-of, cut-of, steps-of, lengths-of, history-of, contents-of, Valid, Represents}
 use Rattle.book.specs.Reader.{Next, RoomFlag, RoomStep, RoomDone}
 use Rattle.book.specs.declared.Book.{Book}
 use Rattle.book.proofs.Lists.{take-more, take-last, take-last-set, getD-front, last-snoc, sum-snoc, sum-set, sum-le, sum-lt, count-snoc, steps-snoc, length-steps, lengths-runs, length-lengths, runs-snoc, runs-more, map-snoc, marked-more, flags-set, column-set, column-more, above-pair-index, above-cut-index}
-
--- a valid book of these contents
-pub record Represents (d : Contents) (b : Book) : Type 0 where
-  pub contents : contents-of b ≡ d
-  pub valid : Valid b
 
 -- the contents of a valid book, by its fields
 module _ (b : Book) (v : Valid b) where

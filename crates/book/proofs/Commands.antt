@@ -9,9 +9,9 @@ use mir.Syntax.{w64}
 use lib.ListN.{length, getD, drop}
 use lib.Dec.{leb}
 use Rattle.theory.specs.History.{count}
-use Rattle.book.specs.Format.{State, Move, Test, last, lengths, checks, above-pair, above-cut, add-pair, add-run, add-step, add-cut, add-done, on, over, refused, pair-at, run-at, step-at, cut-at, done-at, end-at, pair-tests, run-tests, step-tests, cut-tests, done-tests, command-at}
+use Rattle.book.specs.Format.{ReadState, Move, Test, last, lengths, checks, above-pair, above-cut, add-pair, add-run, add-step, add-cut, add-done, on, over, refused, pair-at, run-at, step-at, cut-at, done-at, end-at, pair-tests, run-tests, step-tests, cut-tests, done-tests, command-at}
 use Rattle.book.specs.Book.{contents-of}
-use Rattle.book.specs.Reader.{so-far, state-of, Underway, Any, Lens, Tables, Inside, width, Decides, MayTake, TakenAs}
+use Rattle.book.specs.Reader.{so-far, read-state-of, Underway, Any, Lens, Tables, Inside, width, Decides, MayTake, CommandReadAs}
 use Rattle.book.specs.declared.Cause.{Cause}
 use Rattle.book.specs.declared.Cause.the-variants.{NoCommand, EndsEarly, OutOfOrder, WrongKind, NotRising, WrongRun, TooManyRuns, RunTooLong, TooManySteps, WrongCut, NoStepLeft, BytesAfterEnd}
 use Rattle.book.specs.declared.Book.{Book}
@@ -21,19 +21,19 @@ use Rattle.book.specs.declared.Command.the-variants.{Pair, Run, Step, Cu
 use Rattle.book.proofs.Books.{runs-are, sum-is, last-is, length-is, count-is, pair-above, cut-above}
 
 -- a refusal
-refusal : {tables : Book → Type 0} {format : List ℕ → ℕ → State → Move} {s : List ℕ} {at : ℕ} {p : Progress} (cause : Cause) (place : ℕ)
-    → ((b : Book) → Underway b p → tables b → format s at (state-of b p) ≡ over (refused cause place))
+refusal : {tables : Book → Type 0} {format : List ℕ → ℕ → ReadState → Move} {s : List ℕ} {at : ℕ} {p : Progress} (cause : Cause) (place : ℕ)
+    → ((b : Book) → Underway b p → tables b → format s at (read-state-of b p) ≡ over (refused cause place))
     → Decides tables format s at p (Refused cause place)
 refusal cause place e = record { move = λ b y t. sym (e b y t); room = λ b y t. tt; ends = λ l. omega arith }
 
 -- for all tables that are as a function was lent, what the format does at a command is left to the tests from the n-th on, and then a move
-abbrev Left : (Book → Type 0) → (List ℕ → ℕ → State → Move) → (List ℕ → ℕ → State → List Test) → (State → Move) → List ℕ → ℕ → Progress → ℕ → Type 0
+abbrev Left : (Book → Type 0) → (List ℕ → ℕ → ReadState → Move) → (List ℕ → ℕ → ReadState → List Test) → (ReadState → Move) → List ℕ → ℕ → Progress → ℕ → Type 0
 Left tables format tests move s at p n =
-    (b : Book) → Underway b p → tables b → format s at (state-of b p) ≡ checks (drop n (tests s at (state-of b p))) at (move (state-of b p))
+    (b : Book) → Underway b p → tables b → format s at (read-state-of b p) ≡ checks (drop n (tests s at (read-state-of b p))) at (move (read-state-of b p))
 
 -- 43
 module _ (s : List ℕ) (at : ℕ) (p : Progress) where
-  abbrev pair-move : State → Move
+  abbrev pair-move : ReadState → Move
   pair-move t = on (at + 3) (record { group = 0; contents = add-pair (t .contents) (getD s (at + 1) 0) (getD s (at + 2) 0) })
 
   pair-0 : Left Any pair-at pair-tests pair-move s at p 0
@@ -96,7 +96,7 @@ module _ (s : List ℕ) (at : ℕ) (p : Progress) where
 
 -- 52
 module _ (s : List ℕ) (at : ℕ) (p : Progress) where
-  abbrev run-move : State → Move
+  abbrev run-move : ReadState → Move
   run-move t = on (at + 2) (record { group = 1; contents = add-run (t .contents) })
 
   run-0 : Left Any run-at run-tests run-move s at p 0
@@ -165,7 +165,7 @@ module _ (b : Book) (p : Progress) (y : Underway b p) (lens : List ℕ) (e : b .
 
 -- 53
 module _ (s : List ℕ) (at : ℕ) (p : Progress) (lens : List ℕ) where
-  abbrev step-move : State → Move
+  abbrev step-move : ReadState → Move
   step-move t = on (at + 4) (record { group = 1; contents = add-step (t .contents) (getD s (at + 1) 0) (getD s (at + 2) 0 * 256 + getD s (at + 3) 0) })
 
   step-0 : Left (Lens lens) step-at step-tests step-move s at p 0
@@ -232,7 +232,7 @@ module _ (s : List ℕ) (at : ℕ) (p : Progress) (lens : List ℕ) where
 
 -- 42
 module _ (s : List ℕ) (at : ℕ) (p : Progress) (lens : List ℕ) where
-  abbrev cut-move : State → Move
+  abbrev cut-move : ReadState → Move
   cut-move t = on (at + 4) (record { group = 2; contents = add-cut (t .contents) (getD s (at + 1) 0) (getD s (at + 2) 0) (getD s (at + 3) 0) })
 
   cut-0 : Left (Lens lens) cut-at cut-tests cut-move s at p 0
@@ -327,7 +327,7 @@ module _ (s : List ℕ) (at : ℕ) (p : Progress) (lens : List ℕ) where
 
 -- 48
 module _ (s : List ℕ) (at : ℕ) (p : Progress) (lens dones : List ℕ) where
-  abbrev done-move : State → Move
+  abbrev done-move : ReadState → Move
   done-move t = on (at + 2) (record { group = 3; contents = add-done (t .contents) (getD s (at + 1) 0) })
 
   done-0 : Left (Tables lens dones) done-at done-tests done-move s at p 0
@@ -370,9 +370,9 @@ module _ (s : List ℕ) (at : ℕ) (p : Progress) (lens dones : List ℕ) where
 -- the command of the byte
 module _ (s : List ℕ) (at : ℕ) (p : Progress) (lens dones : List ℕ) where
   -- the byte's own function decides
-  by : {tables : Book → Type 0} {format : List ℕ → ℕ → State → Move} (c : Command) → ((b : Book) → Tables lens dones b → tables b) → Decides tables format s at p c
-      → ((t : State) → format s at t ≡ command-at s at t) → Decides (Tables lens dones) command-at s at p c
-  by c f w e = record { move = λ b y t. w .move b y (f b t) ∙ e (state-of b p); room = λ b y t. w .room b y (f b t); ends = w .ends }
+  by : {tables : Book → Type 0} {format : List ℕ → ℕ → ReadState → Move} (c : Command) → ((b : Book) → Tables lens dones b → tables b) → Decides tables format s at p c
+      → ((t : ReadState) → format s at t ≡ command-at s at t) → Decides (Tables lens dones) command-at s at p c
+  by c f w e = record { move = λ b y t. w .move b y (f b t) ∙ e (read-state-of b p); room = λ b y t. w .room b y (f b t); ends = w .ends }
 
   lent-lens : (b : Book) → Tables lens dones b → Lens lens b
   lent-lens b t = record { lens-are = t .lens-are }
@@ -421,5 +421,5 @@ module _ (s : List ℕ) (at : ℕ) (p : Progress) (lens dones : List ℕ) (c : C
   pub behind-fits : MayTake s at p → Fits w64 (at + n)
   behind-fits z = omega (arith, w .ends (z .within), z .short)
 
-  pub taken-as : TakenAs lens dones s at p c (at + n)
+  pub taken-as : CommandReadAs lens dones s at p c (at + n)
   taken-as = record { decides = w; moved = rw e refl }

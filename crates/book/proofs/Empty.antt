@@ -5,10 +5,9 @@ use mathlib.Core.List.{[]}
 use native.Mathlib.Omega.{arith}
 use lib.ListN.{getD, replicate, length-replicate}
 use Rattle.book.specs.Format.{sum, nothing}
-use Rattle.book.specs.Book.{marked, contents-of, Flags, Column, Valid, empty-book}
+use Rattle.book.specs.Book.{Represents, marked, contents-of, Flags, Column, Valid, empty-book}
 use Rattle.book.specs.Reader.{at-start, so-far, Next, Underway}
 use Rattle.book.specs.declared.Book.{Book}
-use Rattle.book.proofs.Books.{Represents}
 
 zeros : (n i : ℕ) → _≡_ {A = ℕ} (getD (replicate n 0) i 0) 0
 zeros zero i = refl

@@ -9,7 +9,7 @@ use mir.Syntax.{w8}
 use lib.ListN.{length, getD, set}
 use Rattle.book.specs.Format.{Contents, Move, Outcome, on, over, refused, accepted, follow, command-at, read-from, read-commands, read}
 use Rattle.book.specs.Book.{contents-of, empty-book, ReadAs}
-use Rattle.book.specs.Reader.{at-start, past-pair, past-run, past-step, past-cut, past-done, accepted-as, so-far, state-of, Underway, Tables, move-of, Room, RoomStep, RoomDone, width, MayTake, TakenAs}
+use Rattle.book.specs.Reader.{at-start, past-pair, past-run, past-step, past-cut, past-done, accepted-as, so-far, read-state-of, Underway, Tables, move-of, Room, RoomStep, RoomDone, width, MayTake, CommandReadAs}
 use Rattle.book.specs.declared.Cause.{Cause}
 use Rattle.book.specs.declared.Cause.the-variants.{BookTooLong}
 use Rattle.book.specs.declared.Book.{Book}
@@ -33,7 +33,7 @@ pub record Rest (s : List ℕ) (b : Book) (at : ℕ) (p : Progress) : Type 0 whe
   pub inside : at ≤ length s
   pub fuel : ℕ
   pub enough : length s - at < fuel
-  pub rest : read-from fuel s at (state-of b p) ≡ read-commands s
+  pub rest : read-from fuel s at (read-state-of b p) ≡ read-commands s
 
 pub begins : (s : List ℕ) (b : Book) (p : Progress) → length s ≤ 16384 → b ≡ empty-book → p ≡ at-start → Rest s b 0 p
 unfolding read-commands
@@ -78,7 +78,7 @@ with-done-at b place n r = record {
   done = b .done;
 }
 
-module _ (s : List ℕ) (b : Book) (at : ℕ) (p : Progress) (c : Command) (behind : ℕ) (i : Rest s b at p) (w : TakenAs (b .lens) (b .dones) s at p c behind) where
+module _ (s : List ℕ) (b : Book) (at : ℕ) (p : Progress) (c : Command) (behind : ℕ) (i : Rest s b at p) (w : CommandReadAs (b .lens) (b .dones) s at p c behind) where
   lent : Tables (b .lens) (b .dones) b
   lent = record { lens-are = refl; dones-are = refl }
 
@@ -91,11 +91,11 @@ module _ (s : List ℕ) (b : Book) (at : ℕ) (p : Progress) (c : Command) (behi
   ends : behind ≤ length s
   ends = omega (arith, w .moved, w .decides .ends (i .inside))
 
-  moves : (d : Command) → c ≡ d → command-at s at (state-of b p) ≡ move-of d b at p
+  moves : (d : Command) → c ≡ d → command-at s at (read-state-of b p) ≡ move-of d b at p
   moves d e = sym (w .decides .move b (i .underway) lent) ∙ ap (λ (x : Command). move-of x b at p) e
 
-  goes : (b′ : Book) (q : Progress) → command-at s at (state-of b p) ≡ on behind (state-of b′ q) → Underway b′ q → at < behind
-      → (k : ℕ) → length s - at < k → read-from k s at (state-of b p) ≡ read-commands s → Rest s b′ behind q
+  goes : (b′ : Book) (q : Progress) → command-at s at (read-state-of b p) ≡ on behind (read-state-of b′ q) → Underway b′ q → at < behind
+      → (k : ℕ) → length s - at < k → read-from k s at (read-state-of b p) ≡ read-commands s → Rest s b′ behind q
   unfolding read-from
   goes b′ q e y l zero n r = absurd (omega arith)
   goes b′ q e y l (suc k) n r = record {
@@ -107,15 +107,15 @@ module _ (s : List ℕ) (b : Book) (at : ℕ) (p : Progress) (c : Command) (behi
     rest = ap (λ (m : Move). follow m (read-from k s)) (sym e) ∙ r;
   }
 
-  stops : (o : Outcome) → command-at s at (state-of b p) ≡ over o → (k : ℕ) → length s - at < k → read-from k s at (state-of b p) ≡ read-commands s → o ≡ read-commands s
+  stops : (o : Outcome) → command-at s at (read-state-of b p) ≡ over o → (k : ℕ) → length s - at < k → read-from k s at (read-state-of b p) ≡ read-commands s → o ≡ read-commands s
   unfolding read-from
   stops o e zero n r = absurd (omega arith)
   stops o e (suc k) n r = ap (λ (m : Move). follow m (read-from k s)) (sym e) ∙ r
 
   -- the next turn, by what the book holds then
-  turn : (d : Command) → c ≡ d → (b′ : Book) (q : Progress) → move-of d b at p ≡ on (at + width d) (state-of b′ q) → Underway b′ q → 0 < width d → Rest s b′ behind q
+  turn : (d : Command) → c ≡ d → (b′ : Book) (q : Progress) → move-of d b at p ≡ on (at + width d) (read-state-of b′ q) → Underway b′ q → 0 < width d → Rest s b′ behind q
   turn d e b′ q m y l =
-      goes b′ q (moves d e ∙ m ∙ ap (λ (n : ℕ). on n (state-of b′ q)) (sym (offset d e))) y (omega (arith, offset d e)) (i .fuel) (i .enough) (i .rest)
+      goes b′ q (moves d e ∙ m ∙ ap (λ (n : ℕ). on n (read-state-of b′ q)) (sym (offset d e))) y (omega (arith, offset d e)) (i .fuel) (i .enough) (i .rest)
 
   less : (d : Command) → c ≡ d → 0 < width d → length s - behind < length s - at
   less d e l = omega (arith, offset d e, ends)

@@ -19,13 +19,13 @@ use denote.Struct.Laws as LL
 use denote.Enum.Laws as EL
 use Rattle.book.specs.declared.Progress.{Progress}
 use Rattle.book.specs.declared.Command.{Command}
-use Rattle.book.specs.declared.Taken.{Taken}
+use Rattle.book.specs.declared.CommandRead.{CommandRead}
 use Rattle.book.proofs.Progress as P
 use Rattle.book.proofs.Progress.Laws as P′
 use Rattle.book.proofs.Command as N
 use Rattle.book.proofs.Command.Laws as N′
-use Rattle.book.proofs.Taken as O
-use Rattle.book.proofs.Taken.Laws as O′
+use Rattle.book.proofs.CommandRead as O
+use Rattle.book.proofs.CommandRead.Laws as O′
 
 -- a table of a number for each run
 abbrev pub Table : RattleType
@@ -37,14 +37,14 @@ progress-val p = LL.tuple-val P.the-type P′.the-laws (P.the-type .to p)
 abbrev pub command-val : Command → Val
 command-val c = EL.val N.the-type N′.the-laws c
 
-abbrev pub taken-val : Taken → Val
-taken-val t = LL.tuple-val O.the-type O′.the-laws (O.the-type .to t)
+abbrev pub read-val : CommandRead → Val
+read-val t = LL.tuple-val O.the-type O′.the-laws (O.the-type .to t)
 
 -- what whoever holds a command with its offset knows of the two
-pub command-is : (t : Taken) (v : Val) → Is O.the-row t (v ∷ []) → Is N.the-row (t .command) (command-val (t .command) ∷ [])
+pub command-is : (t : CommandRead) (v : Val) → Is O.the-row t (v ∷ []) → Is N.the-row (t .command) (command-val (t .command) ∷ [])
 command-is t v is = LL.owed O.the-type O′.the-laws t _ is .0
 
-pub offset-fits : (t : Taken) (v : Val) → Is O.the-row t (v ∷ []) → t .at < 2 ^ 64
+pub offset-fits : (t : CommandRead) (v : Val) → Is O.the-row t (v ∷ []) → t .at < 2 ^ 64
 offset-fits t v is = LL.owed O.the-type O′.the-laws t _ is .1 .0 .1
 
 -- the progress and the two tables

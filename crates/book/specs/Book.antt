@@ -13,7 +13,7 @@ use Rattle.book.specs.declared.Answer.{Answer}
 use Rattle.book.specs.declared.Answer.the-variants.{Refused, Accepted}
 use Rattle.book.specs.declared.Reading.{Reading}
 
--- the indices, from i on, of what is not 0
+-- the indices of what is not 0, where the first of the list has index i
 abbrev pub marked : ℕ → List ℕ → List ℕ
 marked i [] = []
 marked i (x ∷ xs) = pick (eqb x 0) (marked (suc i) xs) (i ∷ marked (suc i) xs)
@@ -25,12 +25,16 @@ pairs-size = kind-limit * kind-limit
 abbrev pub cuts-size : ℕ
 cuts-size = run-limit * run-step-limit * run-limit
 
+-- how many entries the table of cuts has of each run
+abbrev pub run-cuts : ℕ
+run-cuts = run-step-limit * run-limit
+
 -- the pair and the cut of an index
 abbrev pub pair-of : ℕ → Pair
-pair-of i = record { a = i / 16; b = i % 16 }
+pair-of i = record { a = i / kind-limit; b = i % kind-limit }
 
 abbrev pub cut-of : ℕ → Cut
-cut-of i = record { of-run = i / 512; after = i % 512 / 16; seen-by = i % 16 }
+cut-of i = record { of-run = i / run-cuts; after = i % run-cuts / run-limit; seen-by = i % run-limit }
 
 -- steps of these kinds and positions
 abbrev pub steps-at : List ℕ → List ℕ → List Step
@@ -72,7 +76,7 @@ pub record Column (n limit end : ℕ) (l : List ℕ) : Type 0 where
   pub small : (i : ℕ) → getD l i 0 < limit
   pub blank : (i : ℕ) → end ≤ i → getD l i 0 ≡ 0
 
--- a book whose fields are as the reader leaves them
+-- a book whose tables have their sizes and ranges, are 0 behind their counts, and agree with each other. Every book that the reader hands back is one
 pub record Valid (b : Book) : Type 0 where
   pub pairs : Flags pairs-size (b .pairs)
   pub cuts : Flags cuts-size (b .cuts)
@@ -87,6 +91,11 @@ pub record Valid (b : Book) : Type 0 where
   pub done-sum : sum (b .dones) ≡ b .done
   pub done-count : (r : ℕ) → getD (b .dones) r 0 ≡ count (history-of b) r
   pub done-within : (r : ℕ) → getD (b .dones) r 0 ≤ getD (b .lens) r 0
+
+-- a valid book of these contents
+pub record Represents (d : Contents) (b : Book) : Type 0 where
+  pub contents : contents-of b ≡ d
+  pub valid : Valid b
 
 -- the book without pairs, runs, cuts and history: every number is 0
 unfoldable pub empty-book : Book
@@ -111,7 +120,7 @@ outcome-by Accepted b = accepted (contents-of b)
 abbrev pub outcome-of : Reading → Outcome
 outcome-of r = outcome-by (r .answer) (r .book)
 
--- a reading of this outcome; where it is refused, the book is empty
+-- a reading of this outcome, with a valid book; where it is refused, the empty one
 pub record ReadAs (o : Outcome) (r : Reading) : Type 0 where
   pub outcome : outcome-of r ≡ o
   pub valid : Valid (r .book)

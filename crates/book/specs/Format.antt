@@ -1,7 +1,7 @@
 -- The format of a deck book, as one function from a list of bytes to an outcome: refused with cause and place, or accepted with the
 -- book's contents (document 01, "Deck book" and "When something is turned away"). Each command has a table of tests in document 01's
 -- order, 2, 3, 4, 5, 7, 8, 9, 6, 10, then 11; the first that fails refuses.
-use Prim.Native.Nat.{ℕ, zero, suc, _+_, _-_, _*_}
+use Prim.Native.Nat.{ℕ, zero, suc, _+_, _-_, _*_, _<_}
 use mathlib.Core.List.{List, [], _∷_, _++_}
 use mathlib.Core.Bool.{Bool, true, false, not}
 use lib.ListN.{length, getD}
@@ -42,13 +42,13 @@ abbrev pub length-limit : ℕ
 length-limit = 16384
 
 -- how far a book has been read: the group of the last command (43 is group 0, 52 and 53 are 1, 42 is 2, 48 is 3), and the contents so far
-pub record State : Type 0 where
+pub record ReadState : Type 0 where
   pub group : ℕ
   pub contents : Contents
 
--- what one command does: reading goes on at a place with a state, or is over
+-- what one command does: reading goes on at an offset with a state, or is over
 pub data Move : Type 0 where
-  on : ℕ → State → Move
+  on : ℕ → ReadState → Move
   over : Outcome → Move
 
 -- a test: what has to hold, and the cause of the refusal where it does not
@@ -63,7 +63,7 @@ abbrev pub check : Bool → Cause → ℕ → Move → Move
 check true c at m = m
 check false c at m = over (refused c at)
 
--- the first test that fails refuses at the place; else comes m
+-- the first test that fails refuses, and the place is the command's offset; else comes m
 abbrev pub checks : List Test → ℕ → Move → Move
 checks [] at m = m
 checks (t ∷ ts) at m = check (t .holds) (t .cause) at (checks ts at m)
@@ -74,6 +74,10 @@ pick false a b = b
 
 abbrev pub byte : List ℕ → ℕ → ℕ
 byte s i = getD s i 0
+
+-- each number of the list is a byte
+abbrev pub Bytes : List ℕ → Type 0
+Bytes s = (i : ℕ) → getD s i 0 < 256
 
 abbrev pub sum : List ℕ → ℕ
 sum [] = 0
@@ -98,7 +102,7 @@ above-pair (p ∷ q ∷ qs) a b = above-pair (q ∷ qs) a b
 abbrev pub add-pair : Contents → ℕ → ℕ → Contents
 add-pair d x y = record { pairs = d .pairs ++ record { a = x; b = y } ∷ []; runs = d .runs; cuts = d .cuts; history = d .history }
 
-unfoldable pub pair-tests : List ℕ → ℕ → State → List Test
+unfoldable pub pair-tests : List ℕ → ℕ → ReadState → List Test
 pair-tests s at t =
     test (leb 3 (length s - at)) EndsEarly
     ∷ test (leb (t .group) 0) OutOfOrder
@@ -107,7 +111,7 @@ pair-tests s at t =
     ∷ test (above-pair (t .contents .pairs) (byte s (at + 1)) (byte s (at + 2))) NotRising
     ∷ []
 
-unfoldable pub pair-at : List ℕ → ℕ → State → Move
+unfoldable pub pair-at : List ℕ → ℕ → ReadState → Move
 pair-at s at t = checks (pair-tests s at t) at
     (on (at + 3) (record { group = 0; contents = add-pair (t .contents) (byte s (at + 1)) (byte s (at + 2)) }))
 
@@ -115,7 +119,7 @@ pair-at s at t = checks (pair-tests s at t) at
 abbrev pub add-run : Contents → Contents
 add-run d = record { pairs = d .pairs; runs = d .runs ++ ([] ∷ []); cuts = d .cuts; history = d .history }
 
-unfoldable pub run-tests : List ℕ → ℕ → State → List Test
+unfoldable pub run-tests : List ℕ → ℕ → ReadState → List Test
 run-tests s at t =
     test (leb 2 (length s - at)) EndsEarly
     ∷ test (leb (t .group) 1) OutOfOrder
@@ -123,7 +127,7 @@ run-tests s at t =
     ∷ test (ltb (length (t .contents .runs)) run-limit) TooManyRuns
     ∷ []
 
-unfoldable pub run-at : List ℕ → ℕ → State → Move
+unfoldable pub run-at : List ℕ → ℕ → ReadState → Move
 run-at s at t = checks (run-tests s at t) at
     (on (at + 2) (record { group = 1; contents = add-run (t .contents) }))
 
@@ -136,7 +140,7 @@ add-last (r ∷ q ∷ qs) x = r ∷ add-last (q ∷ qs) x
 abbrev pub add-step : Contents → ℕ → ℕ → Contents
 add-step d k p = record { pairs = d .pairs; runs = add-last (d .runs) (record { kind = k; position = p }); cuts = d .cuts; history = d .history }
 
-unfoldable pub step-tests : List ℕ → ℕ → State → List Test
+unfoldable pub step-tests : List ℕ → ℕ → ReadState → List Test
 step-tests s at t =
     test (leb 4 (length s - at)) EndsEarly
     ∷ test (leb (t .group) 1) OutOfOrder
@@ -146,7 +150,7 @@ step-tests s at t =
     ∷ test (ltb (sum (lengths (t .contents .runs))) step-limit) TooManySteps
     ∷ []
 
-unfoldable pub step-at : List ℕ → ℕ → State → Move
+unfoldable pub step-at : List ℕ → ℕ → ReadState → Move
 step-at s at t = checks (step-tests s at t) at
     (on (at + 4) (record { group = 1; contents = add-step (t .contents) (byte s (at + 1)) (byte s (at + 2) * 256 + byte s (at + 3)) }))
 
@@ -159,7 +163,7 @@ above-cut (p ∷ q ∷ qs) r j o = above-cut (q ∷ qs) r j o
 abbrev pub add-cut : Contents → ℕ → ℕ → ℕ → Contents
 add-cut d r j o = record { pairs = d .pairs; runs = d .runs; cuts = d .cuts ++ record { of-run = r; after = j; seen-by = o } ∷ []; history = d .history }
 
-unfoldable pub cut-tests : List ℕ → ℕ → State → List Test
+unfoldable pub cut-tests : List ℕ → ℕ → ReadState → List Test
 cut-tests s at t =
     test (leb 4 (length s - at)) EndsEarly
     ∷ test (leb (t .group) 2) OutOfOrder
@@ -171,7 +175,7 @@ cut-tests s at t =
     ∷ test (above-cut (t .contents .cuts) (byte s (at + 1)) (byte s (at + 2)) (byte s (at + 3))) NotRising
     ∷ []
 
-unfoldable pub cut-at : List ℕ → ℕ → State → Move
+unfoldable pub cut-at : List ℕ → ℕ → ReadState → Move
 cut-at s at t = checks (cut-tests s at t) at
     (on (at + 4) (record { group = 2; contents = add-cut (t .contents) (byte s (at + 1)) (byte s (at + 2)) (byte s (at + 3)) }))
 
@@ -179,23 +183,23 @@ cut-at s at t = checks (cut-tests s at t) at
 abbrev pub add-done : Contents → ℕ → Contents
 add-done d r = record { pairs = d .pairs; runs = d .runs; cuts = d .cuts; history = d .history ++ r ∷ [] }
 
-unfoldable pub done-tests : List ℕ → ℕ → State → List Test
+unfoldable pub done-tests : List ℕ → ℕ → ReadState → List Test
 done-tests s at t =
     test (leb 2 (length s - at)) EndsEarly
     ∷ test (ltb (byte s (at + 1)) (length (t .contents .runs))) WrongRun
     ∷ test (ltb (count (t .contents .history) (byte s (at + 1))) (getD (lengths (t .contents .runs)) (byte s (at + 1)) 0)) NoStepLeft
     ∷ []
 
-unfoldable pub done-at : List ℕ → ℕ → State → Move
+unfoldable pub done-at : List ℕ → ℕ → ReadState → Move
 done-at s at t = checks (done-tests s at t) at
     (on (at + 2) (record { group = 3; contents = add-done (t .contents) (byte s (at + 1)) }))
 
 -- 45: the end, and nothing behind it
-unfoldable pub end-at : List ℕ → ℕ → State → Move
+unfoldable pub end-at : List ℕ → ℕ → ReadState → Move
 end-at s at t = check (leb (length s) (at + 1)) BytesAfterEnd (at + 1) (over (accepted (t .contents)))
 
--- the command at a place; where the bytes have ended, the place is their length
-unfoldable pub command-at : List ℕ → ℕ → State → Move
+-- the command at an offset; where the bytes have ended, the place of the refusal is their length
+unfoldable pub command-at : List ℕ → ℕ → ReadState → Move
 command-at s at t =
     check (ltb at (length s)) EndsEarly at
     (pick (eqb (byte s at) 0x43) (pair-at s at t)
@@ -206,16 +210,16 @@ command-at s at t =
     (pick (eqb (byte s at) 0x45) (end-at s at t)
     (over (refused NoCommand at))))))))
 
-abbrev pub follow : Move → (ℕ → State → Outcome) → Outcome
+abbrev pub follow : Move → (ℕ → ReadState → Outcome) → Outcome
 follow (on at t) f = f at t
 follow (over o) f = o
 
--- at most k commands from a place on
-unfoldable pub read-from : ℕ → List ℕ → ℕ → State → Outcome
+-- at most k commands from an offset on
+unfoldable pub read-from : ℕ → List ℕ → ℕ → ReadState → Outcome
 read-from zero s at t = refused EndsEarly at
 read-from (suc k) s at t = follow (command-at s at t) (read-from k s)
 
-abbrev pub start : State
+abbrev pub start : ReadState
 start = record { group = 0; contents = nothing }
 
 -- commands in turn from the first byte on; each has a byte at least, so one more than the bytes are enough

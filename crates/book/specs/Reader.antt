@@ -3,8 +3,8 @@ use Prim.Native.Nat.{ℕ, _+_, _-_, _/_, _%_, _≤_, _<_}
 use mathlib.Core.Path.{_≡_}
 use mathlib.Core.List.{List, [], _∷_}
 use lib.ListN.{length, getD}
-use Rattle.book.specs.Format.{kind-limit, run-limit, run-step-limit, step-limit, length-limit, State, Move, on, over, refused, accepted, add-pair, add-run, add-step, add-cut, add-done, command-at}
-use Rattle.book.specs.Book.{pairs-size, cuts-size, marked, contents-of, Valid}
+use Rattle.book.specs.Format.{kind-limit, run-limit, run-step-limit, step-limit, length-limit, ReadState, Move, on, over, refused, accepted, add-pair, add-run, add-step, add-cut, add-done, command-at}
+use Rattle.book.specs.Book.{pairs-size, cuts-size, pair-of, cut-of, marked, contents-of, Valid}
 use Rattle.book.specs.declared.Book.{Book}
 use Rattle.book.specs.declared.Answer.the-variants.{Accepted}
 use Rattle.book.specs.declared.Reading.{Reading}
@@ -50,8 +50,8 @@ abbrev pub accepted-as : Book → Progress → Reading
 accepted-as b p = record { answer = Accepted; book = so-far b p }
 
 -- where the format's reader stands
-abbrev pub state-of : Book → Progress → State
-state-of b p = record { group = p .group; contents = contents-of (so-far b p) }
+abbrev pub read-state-of : Book → Progress → ReadState
+read-state-of b p = record { group = p .group; contents = contents-of (so-far b p) }
 
 -- one more than the last of a list, or 0
 abbrev pub next-of : List ℕ → ℕ
@@ -70,7 +70,7 @@ pub record Underway (b : Book) (p : Progress) : Type 0 where
   pub pairs : Next (b .pairs) (p .«next_pair»)
   pub cuts : Next (b .cuts) (p .«next_cut»)
 
--- the tables that a command's function is lent
+-- which tables a command's function is lent: none, the runs' lengths, or these and the counts of done steps
 abbrev pub Any : Book → Type 0
 Any b = Unit {0}
 
@@ -81,17 +81,17 @@ pub record Tables (lens dones : List ℕ) (b : Book) : Type 0 where
   pub lens-are : b .lens ≡ lens
   pub dones-are : b .dones ≡ dones
 
--- a command begins at the offset
+-- a command begins at the offset, and the runs so far are within their limit
 pub record Inside (s : List ℕ) (at : ℕ) (p : Progress) : Type 0 where
   pub begun : at < length s
   pub few : p .runs ≤ run-limit
 
 -- the move that a command stands for
 abbrev pub move-of : Command → Book → ℕ → Progress → Move
-move-of (Pair i) b at p = on (at + 3) (record { group = 0; contents = add-pair (contents-of (so-far b p)) (i / 16) (i % 16) })
+move-of (Pair i) b at p = on (at + 3) (record { group = 0; contents = add-pair (contents-of (so-far b p)) (pair-of i .a) (pair-of i .b) })
 move-of Run b at p = on (at + 2) (record { group = 1; contents = add-run (contents-of (so-far b p)) })
 move-of (Step k x) b at p = on (at + 4) (record { group = 1; contents = add-step (contents-of (so-far b p)) k x })
-move-of (Cut i) b at p = on (at + 4) (record { group = 2; contents = add-cut (contents-of (so-far b p)) (i / 512) (i % 512 / 16) (i % 16) })
+move-of (Cut i) b at p = on (at + 4) (record { group = 2; contents = add-cut (contents-of (so-far b p)) (cut-of i .of-run) (cut-of i .after) (cut-of i .seen-by) })
 move-of (Done r) b at p = on (at + 2) (record { group = 3; contents = add-done (contents-of (so-far b p)) r })
 move-of End b at p = over (accepted (contents-of (so-far b p)))
 move-of (Refused c i) b at p = over (refused c i)
@@ -134,18 +134,18 @@ width End = 1
 width (Refused c i) = 0
 
 -- the command's move is the format's for all tables that are as the function was lent, there is room for it, and its bytes are there
-pub record Decides (tables : Book → Type 0) (format : List ℕ → ℕ → State → Move) (s : List ℕ) (at : ℕ) (p : Progress) (c : Command) : Type 0 where
-  pub move : (b : Book) → Underway b p → tables b → move-of c b at p ≡ format s at (state-of b p)
+pub record Decides (tables : Book → Type 0) (format : List ℕ → ℕ → ReadState → Move) (s : List ℕ) (at : ℕ) (p : Progress) (c : Command) : Type 0 where
+  pub move : (b : Book) → Underway b p → tables b → move-of c b at p ≡ format s at (read-state-of b p)
   pub room : (b : Book) → Underway b p → tables b → Room c b p
   pub ends : at ≤ length s → at + width c ≤ length s
 
--- the reader stands within the bytes, which are no more than a book may have
+-- the reader stands within the bytes, which are no more than a book may have, and the runs so far are within their limit
 pub record MayTake (s : List ℕ) (at : ℕ) (p : Progress) : Type 0 where
   pub within : at ≤ length s
   pub short : length s ≤ length-limit
   pub few : p .runs ≤ run-limit
 
 -- the command at the offset, and the offset behind it
-pub record TakenAs (lens dones s : List ℕ) (at : ℕ) (p : Progress) (c : Command) (behind : ℕ) : Type 0 where
+pub record CommandReadAs (lens dones s : List ℕ) (at : ℕ) (p : Progress) (c : Command) (behind : ℕ) : Type 0 where
   pub decides : Decides (Tables lens dones) command-at s at p c
   pub moved : behind ≡ at + width c

@@ -4,8 +4,8 @@ ghost use Prim.Native.Nat.{_+_, _*_, _<_, _≤_};
 ghost use lib.ListN.{length};
 ghost use Rattle.book.specs.Numbers.{number};
 ghost use Rattle.book.specs.Format.{kind-limit, run-limit, run-step-limit, step-limit, length-limit, refused, pair-at, run-at, step-at, cut-at, done-at, end-at, command-at, read-commands, read};
-ghost use Rattle.book.specs.Book.{pairs-size, cuts-size, empty-book, ReadAs};
-ghost use Rattle.book.specs.Reader.{at-start, past-pair, past-run, past-step, past-cut, past-done, accepted-as, Inside, Any, Lens, Tables, width, Decides, MayTake, TakenAs};
+ghost use Rattle.book.specs.Book.{pairs-size, cuts-size, run-cuts, empty-book, ReadAs};
+ghost use Rattle.book.specs.Reader.{at-start, past-pair, past-run, past-step, past-cut, past-done, accepted-as, Inside, Any, Lens, Tables, width, Decides, MayTake, CommandReadAs};
 
 // Why something is turned away, one for each row of document 01's table, and three for the limits of runs and steps.
 pub enum Cause {
@@ -79,9 +79,9 @@ pub fn number_of(cause: Cause) -> u8
 // A deck book. What it means is `contents-of` in specs/Book.antt.
 #[repr(C)]
 pub struct Book {
-    // 1 at a * 16 + b for each listed pair of kinds a, b; else 0.
+    // 1 at a * KINDS + b for each listed pair of kinds a, b; else 0.
     pub pairs: [u8; Book::PAIRS_SIZE],
-    // 1 at r * 512 + j * 16 + o for each cut in run r after its j-th step as seen by run o; else 0.
+    // 1 at r * RUN_CUTS + j * RUNS + o for each cut in run r after its j-th step as seen by run o; else 0.
     pub cuts: [u8; Book::CUTS_SIZE],
     // The kind of each step, run after run.
     pub kinds: [u8; Book::STEPS],
@@ -120,7 +120,10 @@ impl Book {
     // The sizes of the tables of pairs and of cuts.
     pub const PAIRS_SIZE: usize = Book::KINDS * Book::KINDS;
 
-    pub const CUTS_SIZE: usize = Book::RUNS * Book::RUN_STEPS * Book::RUNS;
+    pub const CUTS_SIZE: usize = Book::RUNS * Book::RUN_CUTS;
+
+    // How many entries the table of cuts has of each run.
+    pub const RUN_CUTS: usize = Book::RUN_STEPS * Book::RUNS;
 
     // The book without pairs, runs, cuts and history.
     pub fn empty() -> Self
@@ -223,7 +226,7 @@ impl Progress {
     }
 }
 
-// What the command at a place says: what to add to the book, the end, or a refusal with its cause and place.
+// What the command at an offset says: what to add to the book, the end, or a refusal with its cause and place.
 enum Command {
     // The index of a pair.
     Pair(usize),
@@ -239,7 +242,7 @@ enum Command {
 }
 
 // A byte as a number.
-fn wide(x: u8) -> usize
+pub fn wide(x: u8) -> usize
     ensures { λ r. ⌜ (r ≡ x) × (r < 256) ⌝ }
 {
     x as usize
@@ -252,20 +255,20 @@ fn position_of(high: u8, low: u8) -> u16
     (high as u16) * 256 + (low as u16)
 }
 
-// The place of a pair in its table.
+// The index of a pair in its table.
 fn pair_index(a: usize, b: usize) -> usize
     requires { ⌜ (a < kind-limit) × (b < kind-limit) ⌝ }
-    ensures { λ r. ⌜ r ≡ a * 16 + b ⌝ }
+    ensures { λ r. ⌜ r ≡ a * kind-limit + b ⌝ }
 {
-    a * 16 + b
+    a * Book::KINDS + b
 }
 
-// The place of a cut in its table.
+// The index of a cut in its table.
 fn cut_index(r: usize, j: usize, o: usize) -> usize
     requires { ⌜ (r < run-limit) × (j < 256) × (o < run-limit) ⌝ }
-    ensures { λ i. ⌜ i ≡ r * 512 + j * 16 + o ⌝ }
+    ensures { λ i. ⌜ i ≡ r * run-cuts + j * run-limit + o ⌝ }
 {
-    r * 512 + j * 16 + o
+    r * Book::RUN_CUTS + j * Book::RUNS + o
 }
 
 // 43, kinds a, b.
@@ -468,25 +471,25 @@ fn width(command: Command) -> usize
 }
 
 // A command, and the offset behind it.
-struct Taken {
+struct CommandRead {
     command: Command,
     at: usize,
 }
 
 // Takes the command at an offset.
-fn taken_at<'a, 't>(
+fn command_read_at<'a, 't>(
     s: &'a [u8],
     at: usize,
     p: Progress,
     lens: &'t [u8; Book::RUNS],
     dones: &'t [u8; Book::RUNS],
-) -> Taken
+) -> CommandRead
     requires { ⌜ MayTake (now s) at p ⌝ }
-    ensures { λ r. ⌜ TakenAs (now (lens .entry)) (now (dones .entry)) (now (s .entry)) at p (r .command) (r .at) ⌝ }
+    ensures { λ r. ⌜ CommandReadAs (now (lens .entry)) (now (dones .entry)) (now (s .entry)) at p (r .command) (r .at) ⌝ }
 {
     let command = command_at(s, at, p, lens, dones);
     let behind = at + width(command);
-    Taken {
+    CommandRead {
         command,
         at: behind,
     }
@@ -514,15 +517,15 @@ fn take<'s, 'a, 't>(
 ) -> Command
     requires { ⌜ MayTake (now (now r .src)) (now r .at) p ⌝ }
     ensures { λ c. ⌜ (now (r .exit) .src ≡ now (r .entry) .src)
-        × TakenAs (now (lens .entry)) (now (dones .entry)) (now (now (r .entry) .src)) (now (r .entry) .at) p c (now (r .exit) .at) ⌝ }
+        × CommandReadAs (now (lens .entry)) (now (dones .entry)) (now (now (r .entry) .src)) (now (r .entry) .at) p c (now (r .exit) .at) ⌝ }
 {
-    let taken = taken_at(r.src, r.at, p, lens, dones);
+    let taken = command_read_at(r.src, r.at, p, lens, dones);
     r.at = taken.at;
     taken.command
 }
 
 // Where the reader stands.
-fn place_of<'a>(r: Reader<'a>) -> usize
+fn offset_of<'a>(r: Reader<'a>) -> usize
     ensures { λ n. ⌜ n ≡ r .entry .at ⌝ }
 {
     r.at
@@ -535,14 +538,14 @@ fn next_command<'a, 't>(
     p: Progress,
     lens: &'t [u8; Book::RUNS],
     dones: &'t [u8; Book::RUNS],
-) -> Taken
+) -> CommandRead
     requires { ⌜ MayTake (now s) at p ⌝ }
-    ensures { λ r. ⌜ TakenAs (now (lens .entry)) (now (dones .entry)) (now (s .entry)) at p (r .command) (r .at) ⌝ }
+    ensures { λ r. ⌜ CommandReadAs (now (lens .entry)) (now (dones .entry)) (now (s .entry)) at p (r .command) (r .at) ⌝ }
 {
     let mut r = reader_at(s, at);
     let command = take(&mut r, p, lens, dones);
-    let behind = place_of(r);
-    Taken {
+    let behind = offset_of(r);
+    CommandRead {
         command,
         at: behind,
     }

@@ -2,14 +2,15 @@
 use Prim.Native.Nat.{ℕ, _≤_, _<_}
 use native.Mathlib.Decide.{decLt}
 use native.Mathlib.Omega.{arith}
-use mathlib.Core.Path.{_≡_, refl, sym, subst, _∙_}
+use mathlib.Core.Path.{_≡_, refl, ap, sym, subst, _∙_}
+use borrow.Author.Tests.{lt-leb}
 use mathlib.Core.Logic.{_⊎_, inl, inr, _≢_}
 use mathlib.Core.List.{List}
 use lib.ListN.{length, take, drop}
 use lib.Seq.{take-append-seam}
 use Rattle.theory.specs.Relative.{RelativelySerialOrder}
 use Rattle.theory.specs.Graph.{Cycle}
-use Rattle.theory.specs.Rows.{Table}
+use Rattle.theory.specs.Rows.{TwelveHistories}
 use Rattle.theory.proofs.Places.{order-length}
 use Rattle.theory.proofs.Rows.{twelve-rows}
 use Rattle.book.specs.Format.{Contents, Outcome, refused, accepted, step-limit, read}
@@ -19,25 +20,20 @@ use Rattle.book.specs.declared.Cause.{Cause}
 use Rattle.book.specs.declared.Book.{Book}
 use Rattle.book.specs.declared.Answer.{Answer}
 use Rattle.book.specs.declared.Answer.the-variants.{Accepted, Refused as NotRead}
-use Rattle.writer.specs.Written.{written, buffer-by}
+use Rattle.writer.specs.Written.{written-by, written, buffer-by}
 use Rattle.writer.specs.declared.Written.{Written}
 use Rattle.writer.specs.declared.Written.the-variants.{Refused as NotWritten}
-use Rattle.writer.proofs.FormatLaws.{Bytes}
-use Rattle.judge.specs.Judged.{smallest-first, JudgedAs}
+use Rattle.judge.specs.Judged.{JudgedAs}
 use Rattle.judge.specs.Judge.{OutcomeJudged, BytesJudged}
 use Rattle.judge.specs.declared.Judgement.{Judgement}
 use Rattle.judge.specs.declared.Verdict.{Verdict}
 use Rattle.judge.specs.declared.Verdict.the-variants.{Passed, Tangled, Refused as NotJudged}
 use Rattle.judge.proofs.Uncut.{bytes-passed, uncut-passed}
-use Rattle.gate.specs.Plain.{Call, Answer as Reply}
-use Rattle.gate.specs.Gate.{OpenedAs, state-of}
-use Rattle.gate.specs.Chain.{Chain}
-use Rattle.gate.specs.Demand.{Demand3}
-use Rattle.gate.specs.declared.Gate.{Gate}
-use Rattle.gate.specs.declared.Opened.{Opened}
+use Rattle.classes.specs.Reply.{RepliesTo}
+use Rattle.gate.specs.Gate.{opening-answer, opened-book}
 use Rattle.gate.proofs.Unchanged.{refused-unchanged}
 use Rattle.gate.proofs.Chained.{demand-3 as gate-demand}
-use Rattle.claims.specs.Demands.{Demand1, Demand2}
+use Rattle.claims.specs.Demands.{Demand1, Demand1Test, EveryJudgement, EveryListOfCalls}
 
 -- ---- demand 1
 
@@ -76,9 +72,17 @@ demand-1 = record {
   judge-short = λ s order order′ cycle cycle′ r j h. j .short h .verdict-is;
   judge-refused = λ s order order′ cycle cycle′ r cause place j a b e. subst (λ (o : Outcome). OutcomeJudged order order′ cycle cycle′ o r) e (j .long a b) .verdict-is;
   judge-kept = λ s order order′ cycle cycle′ r cause place j e. bytes-kept order order′ cycle cycle′ r s cause place j e;
+  writer-refused = λ s before after r cause place w e. w .answer ∙ ap (λ (o : Outcome). written-by o s (length before)) e;
+  writer-short = λ s before after r c w e h. w .answer ∙ ap (λ (o : Outcome). written-by o s (length before)) e ∙ rw (lt-leb (length s) (length before) h);
   writer-kept = λ s before after cause place w. writer-kept s before (written s (length before)) cause place after (w .answer) (w .buffer);
+  opening-refused = λ s o cause place w e. (w .answer ∙ ap opening-answer e, w .book ∙ ap opened-book e, w .state);
+  gate-refused = λ g h x cause w. w .plain;
   gate-kept = refused-unchanged;
+  replay-kept = λ s calls before after r w n. w .refused-unchanged n .buffer;
 }
+
+pub demand-1-test : (P : Contents → Type 0) → Demand1Test P
+demand-1-test P = record { test-refused = λ s r cause place w e. subst (λ (o : Outcome). RepliesTo o P r) e (w .reply) .reply }
 
 -- ---- demand 2
 
@@ -88,7 +92,7 @@ module _ (c : Contents) (order order′ cycle cycle′ : List ℕ) where
   order-returned (NotJudged cause place) n j e = absurd j
   order-returned Tangled n j e = let z : _≡_ {A = ℕ} 0 1 = cc in absurd (omega arith)
   order-returned Passed n j e =
-      let l = smallest-first (conflict-of c) (unit-of c) (c .history) in
+      let l = j .taken in
       let k : n ≡ length l = j .count-is ∙ sym (order-length (c .history) l (j .evidence .equivalent .order)) in
       rw (j .order-is, k, take-append-seam l (drop (length (c .history)) order)) (j .evidence)
 
@@ -98,9 +102,7 @@ module _ (c : Contents) (order order′ cycle cycle′ : List ℕ) where
   cycle-returned Passed n j e = absurd (e refl)
   cycle-returned Tangled n j e = rw (j .cycle-is, j .count-is, take-append-seam (j .places) (drop (length (j .places)) cycle)) (j .evidence)
 
--- for every string of bytes, buffers as long as the judge asks, and judgement that meets the judge's contract
-pub demand-2 : (s : List ℕ) (c : Contents) → read s ≡ accepted c → (order order′ cycle cycle′ : List ℕ) (r : Judgement) → step-limit ≤ length order → step-limit ≤ length cycle
-    → BytesJudged order order′ cycle cycle′ s r → Demand2 c order′ cycle′ r
+pub demand-2 : EveryJudgement
 demand-2 s c e order order′ cycle cycle′ r a b j = record {
   passes-exactly = bytes-passed order order′ cycle cycle′ s r j a b c e;
   order-returned = order-returned c order order′ cycle cycle′ (r .verdict) (r .count) judged;
@@ -113,12 +115,10 @@ demand-2 s c e order order′ cycle cycle′ r a b j = record {
 
 -- ---- demand 3
 
--- for every accepted book, every gate that opening it returned, and every list of calls made in turn on that record
-pub demand-3 : (s : List ℕ) (c : Contents) → Bytes s → read s ≡ accepted c → (o : Opened) → OpenedAs (read s) o
-    → (calls : List Call) (answers : List Reply) (g : Gate) → Chain (o .gate) calls answers g → Demand3 c calls answers (state-of g)
+pub demand-3 : EveryListOfCalls
 demand-3 = gate-demand
 
 -- ---- the twelve rows
 
-pub rows : Table
+pub rows : TwelveHistories
 rows = twelve-rows

@@ -25,18 +25,12 @@ pub enum Reply {
     No,
 }
 
-pub fn wide(x: u8) -> usize
-    ensures { λ r. ⌜ (r ≡ x) × (r < 256) ⌝ }
-{
-    x as usize
-}
-
 // The run of a place.
 fn run_of(history: &[u8; Book::STEPS], p: usize) -> usize
     requires { ⌜ (p < step-limit) × Runs (now history) ⌝ }
     ensures { λ r. ⌜ RunAt (now (history .entry)) p r ⌝ }
 {
-    wide(history[p])
+    book::wide(history[p])
 }
 
 // The place that a table of units has for p and run o.
@@ -44,10 +38,10 @@ fn place_in(t: &Units, p: usize, o: usize) -> usize
     requires { ⌜ (p < step-limit) × (o < run-limit) ⌝ }
     ensures { λ r. ⌜ (r ≡ getD (now (t .entry)) (p * run-limit + o) 0) × (r < 256) ⌝ }
 {
-    wide(t[p * Book::RUNS + o])
+    book::wide(t[p * Book::RUNS + o])
 }
 
-// Whether each run's steps stand together: no step of a run that came before follows another run's.
+// Whether each run's steps stand together: a step whose run came before follows a step of the same run.
 fn stands_together(history: &[u8; Book::STEPS], n: usize) -> bool
     requires { ⌜ History (now history) n ⌝ }
     ensures { λ r. ⌜ Answers (Serial (take n (now (history .entry)))) r ⌝ }
@@ -104,7 +98,7 @@ fn atomic_by(history: &[u8; Book::STEPS], n: usize, firsts: &Units) -> bool
     true
 }
 
-// Whether b, interleaved with c's unit, depends on a step of it, or a step of it on b.
+// Whether b is interleaved with c's unit, and depends on a step of it or a step of it on b.
 fn violates(
     history: &[u8; Book::STEPS],
     firsts: &Units,
@@ -164,7 +158,7 @@ fn relatively_serial_by(
     true
 }
 
-// Of a valid book's history: whether it is serial.
+// Whether a valid book's history is serial.
 fn is_serial(b: Book) -> bool
     requires { ⌜ Valid b ⌝ }
     ensures { λ r. ⌜ Answers (Serial (contents-of b .history)) r ⌝ }
@@ -173,7 +167,7 @@ fn is_serial(b: Book) -> bool
     stands_together(&history, b.done)
 }
 
-// Whether it is relatively atomic.
+// Whether a valid book's history is relatively atomic.
 fn is_relatively_atomic(b: Book) -> bool
     requires { ⌜ Valid b ⌝ }
     ensures { λ r. ⌜ Answers (RelativelyAtomic (unit-of (contents-of b)) (contents-of b .history)) r ⌝ }
@@ -185,7 +179,7 @@ fn is_relatively_atomic(b: Book) -> bool
     atomic_by(&history, b.done, &firsts)
 }
 
-// Whether it is relatively serial.
+// Whether a valid book's history is relatively serial.
 pub fn is_relatively_serial(b: Book) -> bool
     requires { ⌜ Valid b ⌝ }
     ensures { λ r. ⌜ Answers (RelativelySerial (conflict-of (contents-of b)) (unit-of (contents-of b)) (contents-of b .history)) r ⌝ }
@@ -208,7 +202,7 @@ fn without_cuts(b: Book) -> Book
     uncut
 }
 
-// Whether it is conflict serializable: the judge passes it without its cuts.
+// Whether a valid book's history is conflict serializable: the judge passes it without its cuts.
 fn is_conflict_serializable(b: Book) -> bool
     requires { ⌜ Valid b ⌝ }
     ensures { λ r. ⌜ Answers (ConflictSerializable (conflict-of (contents-of b)) (contents-of b .history)) r ⌝ }

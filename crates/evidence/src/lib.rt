@@ -72,7 +72,7 @@ fn follows(arc: &Table, n: usize, seen: &Row, before: usize, x: usize) -> bool
     bits::marked(arc, x, before)
 }
 
-// Whether c is a cycle: distinct places, as many as 2 to n, each with an arc from the one before it, the first from the last.
+// Whether c is a cycle: 2 to n places, all distinct, each with an arc from the one before it, the first from the last.
 fn cycle_by(arc: &Table, n: usize, c: &[u8]) -> bool
     requires { ⌜ n ≤ step-limit ⌝ }
     ensures { λ r. ⌜ CycleBy n (now (arc .entry)) (now (c .entry)) r ⌝ }
@@ -84,13 +84,13 @@ fn cycle_by(arc: &Table, n: usize, c: &[u8]) -> bool
     if len > n {
         return false;
     }
-    let mut before = classes::wide(c[len - 1]);
+    let mut before = book::wide(c[len - 1]);
     if before >= n {
         return false;
     }
     let mut seen: Row = [0; bits::ROW_WORDS];
     for i in 0..len {
-        let x = classes::wide(c[i]);
+        let x = book::wide(c[i]);
         if !follows(arc, n, &seen, before, x) {
             return false;
         }
@@ -114,7 +114,7 @@ fn arc_by(arc: &Table, n: usize, x: usize, y: usize) -> bool
     bits::marked(arc, y, x)
 }
 
-// The book with l, which is as long, as its history.
+// The book with l, a list as long as its history, in place of its history.
 fn with_history(b: Book, l: &[u8]) -> Book
     requires { ⌜ (length (now l) ≤ step-limit) × (length (b .history) ≡ step-limit) ⌝ }
     ensures { λ r. ⌜ r ≡ with-history b (now (l .entry)) ⌝ }
@@ -128,7 +128,7 @@ fn with_history(b: Book, l: &[u8]) -> Book
     reordered
 }
 
-// Of a valid book's history: whether l is a relatively serial order of it that agrees on all conflicting pairs.
+// Whether l is a relatively serial order of a valid book's history that agrees with it on all conflicting pairs.
 fn is_relatively_serial_order(b: Book, l: &[u8]) -> bool
     requires { ⌜ Valid b ⌝ }
     ensures { λ r. ⌜ Answers (RelativelySerialOrder (conflict-of (contents-of b)) (unit-of (contents-of b)) (contents-of b .history) (now (l .entry))) r ⌝ }
@@ -143,7 +143,7 @@ fn is_relatively_serial_order(b: Book, l: &[u8]) -> bool
     classes::is_relatively_serial(reordered)
 }
 
-// Whether the places c are a cycle of its graph.
+// Whether the places c are a cycle of the graph of a valid book's history.
 fn is_cycle(b: Book, c: &[u8]) -> bool
     requires { ⌜ Valid b ⌝ }
     ensures { λ r. ⌜ Answers (Cycle (conflict-of (contents-of b)) (unit-of (contents-of b)) (contents-of b .history) (now (c .entry))) r ⌝ }
@@ -153,7 +153,7 @@ fn is_cycle(b: Book, c: &[u8]) -> bool
     cycle_by(&arc, b.done, c)
 }
 
-// Whether its graph has an arc from the place x to the place y.
+// Whether that graph has an arc from the place x to the place y.
 fn is_arc(b: Book, x: usize, y: usize) -> bool
     requires { ⌜ Valid b ⌝ }
     ensures { λ r. ⌜ Answers (Arc (conflict-of (contents-of b)) (unit-of (contents-of b)) (contents-of b .history) x y) r ⌝ }

@@ -1,12 +1,11 @@
--- THE THIRD DEMAND: calls made in turn on the record that opening returned over an accepted book. The contracts of the calls make the chain
+-- Demand 3: calls made in turn on the record that opening returned over an accepted book. The contracts of the calls make the chain
 -- a run of the plain gate, of which the demand holds.
 use Prim.Native.Nat.{ℕ, suc}
 use mathlib.Core.Path.{_≡_, refl, ap, _∙_}
 use mathlib.Core.List.{List, [], _∷_, _++_}
 use lib.ListN.{length}
-use Rattle.book.specs.Format.{Contents, accepted, read}
+use Rattle.book.specs.Format.{Bytes, Contents, accepted, read}
 use Rattle.writer.specs.Render.{with-history}
-use Rattle.writer.proofs.FormatLaws.{Bytes}
 use Rattle.gate.specs.Plain.{Call, Answer, newly-opened, PlainCalls, PlainCall}
 use Rattle.gate.specs.Plain.{none as no-calls, next as next-call}
 use Rattle.gate.specs.Demand.{Demand3}

@@ -7,13 +7,12 @@ use mathlib.Core.Logic.{_↔_}
 use mathlib.Core.List.{List}
 use lib.ListN.{length, take}
 use Rattle.theory.specs.Relative.{RelativelySerializable}
-use Rattle.book.specs.Format.{Contents, accepted, read}
+use Rattle.book.specs.Format.{Bytes, Contents, accepted, read}
 use Rattle.book.specs.Meaning.{conflict-of, unit-of}
 use Rattle.book.specs.Numbers.{number}
 use Rattle.book.specs.declared.Cause.{Cause}
 use Rattle.book.specs.declared.Cause.the-variants.{Tangled}
 use Rattle.writer.specs.Render.{render, with-history}
-use Rattle.writer.proofs.FormatLaws.{Bytes}
 use Rattle.writer.proofs.RoundTrip.{accepted-book, render-bytes, read-with-history}
 use Rattle.writer.proofs.Histories.{history-book}
 use Rattle.judge.specs.Judged.{JudgedAs}

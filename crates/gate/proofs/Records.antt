@@ -14,7 +14,7 @@ use Rattle.theory.specs.History.{count, suc-if}
 use Rattle.book.specs.Format.{Contents, Outcome, pick, add-done}
 use Rattle.book.specs.Format.{refused as book-refused}
 use Rattle.book.specs.Meaning.{conflict-of, unit-of}
-use Rattle.book.specs.Book.{marked, contents-of, Flags, Valid, empty-book, outcome-by, ReadAs}
+use Rattle.book.specs.Book.{Represents, marked, contents-of, Flags, Valid, empty-book, outcome-by, ReadAs}
 use Rattle.book.specs.declared.Book.{Book}
 use Rattle.book.specs.declared.Cause.{Cause}
 use Rattle.book.specs.declared.Cause.the-variants.{Tangled}
@@ -22,7 +22,7 @@ use Rattle.book.specs.declared.Answer.{Answer as BookAnswer}
 use Rattle.book.specs.declared.Answer.the-variants.{Refused as BookRefused, Accepted as BookAccepted}
 use Rattle.book.specs.declared.Reading.{Reading}
 use Rattle.book.proofs.Lists.{flags-set}
-use Rattle.book.proofs.Books.{runs-are, length-is, count-is, history-long, done-below-steps, represents-done, Represents}
+use Rattle.book.proofs.Books.{runs-are, length-is, count-is, history-long, done-below-steps, represents-done}
 use Rattle.book.proofs.Empty.{represents-empty}
 use Rattle.writer.specs.Render.{with-history}
 use Rattle.judge.specs.Judged.{JudgedAs}

@@ -3,8 +3,8 @@ use Prim.Native.Nat.{ℕ, zero, suc, _≤_, _<_}
 use mathlib.Core.Path.{_≡_}
 use mathlib.Core.Logic.{_↔_}
 use mathlib.Core.List.{List, _∷_}
-use lib.ListN.{length, getD, take}
-use Rattle.book.specs.Format.{Contents, accepted, step-limit, read}
+use lib.ListN.{length, take}
+use Rattle.book.specs.Format.{Bytes, Contents, accepted, step-limit, read}
 use Rattle.book.specs.Numbers.{number}
 use Rattle.book.specs.declared.Cause.the-variants.{Tangled}
 use Rattle.writer.specs.Render.{render, with-history}
@@ -21,7 +21,7 @@ pub data At {A : Type 0} : List A → ℕ → A → Type 0 where
 -- the judge passes the book with k as its history: the bytes of that book are an accepted book, and on them, with buffers as long as the
 -- judge asks, each judgement that meets the judge's contract is "passed"
 pub record JudgePasses (c : Contents) (k : List ℕ) : Type 0 where
-  pub bytes : (i : ℕ) → getD (render (with-history c k)) i 0 < 256
+  pub bytes : Bytes (render (with-history c k))
   pub reads : read (render (with-history c k)) ≡ accepted (with-history c k)
   pub passes : (order order′ cycle cycle′ : List ℕ) (r : Judgement) → step-limit ≤ length order → step-limit ≤ length cycle
       → BytesJudged order order′ cycle cycle′ (render (with-history c k)) r → r .verdict ≡ Passed

@@ -28,7 +28,7 @@ book-of g = with-history (contents-of (g .book)) []
 abbrev pub state-of : Gate → State
 state-of g = record { kept = contents-of (g .book) .history; withdrawn = marked 0 (g .withdrawn) }
 
--- a record as opening and the calls return it
+-- holds of every record that opening and the calls return; it is all that the calls ask of a record
 pub record Sound (g : Gate) : Type 0 where
   pub valid : Valid (g .book)
   pub flags : Flags run-limit (g .withdrawn)

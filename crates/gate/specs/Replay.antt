@@ -9,8 +9,6 @@ use lib.ListN.{length, take, drop}
 use lib.Dec.{eqb, leb}
 use Rattle.book.specs.Format.{Contents, Outcome, pick, read}
 use Rattle.book.specs.Format.{refused as book-refused, accepted as book-accepted}
-use Rattle.book.specs.Numbers.{number}
-use Rattle.writer.specs.Written.{Report}
 use Rattle.gate.specs.Plain.{Call, step, withdraw, Answer, place, withdrawn, refused, State, newly-opened, PlainCalls}
 use Rattle.gate.specs.Demand.{Demand3}
 use Rattle.gate.specs.Gate.{book-of, state-of, opened-book, Sound}
@@ -31,7 +29,7 @@ calls-of [] = []
 calls-of (o ∷ []) = []
 calls-of (o ∷ r ∷ bs) = call-of o r ∷ calls-of bs
 
--- the offset of the first byte that is no call, or of a cut-off call; the length where there is neither. The list stands at the offset `at`
+-- the offset of the first call that is neither 53 nor 57, or is cut off; the length where there is none. The list stands at the offset `at`
 abbrev pub bad-at : ℕ → List ℕ → ℕ
 bad-at at [] = at
 bad-at at (o ∷ []) = at
@@ -55,13 +53,6 @@ abbrev pub answers-in : List ℕ → List Answer
 answers-in [] = []
 answers-in (k ∷ []) = []
 answers-in (k ∷ x ∷ bs) = answer-in k x ∷ answers-in bs
-
--- the number and values of each answer: a refusal's place in the book, its offset in the list, or none; the count of calls made
-abbrev pub report : Played → Report
-report (Refused cause at) = record { refusal = number cause; values = at ∷ [] }
-report (BadCall at) = record { refusal = 24; values = at ∷ [] }
-report AnswersShort = record { refusal = 25; values = [] }
-report (Done n) = record { refusal = 0; values = n ∷ [] }
 
 -- the answer for the calls bs and a buffer of n bytes, of the outcome of reading the book: 1 to 11 come first, then 24, then 25
 abbrev pub played-by : Outcome → List ℕ → ℕ → Played

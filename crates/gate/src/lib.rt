@@ -3,8 +3,7 @@ ghost use mathlib.Core.Path.{_≡_};
 ghost use Prim.Native.Nat.{_≤_};
 ghost use mathlib.Core.List.{[]};
 ghost use Rattle.book.specs.Format.{run-limit, add-done, read};
-ghost use Rattle.book.specs.Book.{contents-of, Valid};
-ghost use Rattle.book.proofs.Books.{Represents};
+ghost use Rattle.book.specs.Book.{Represents, contents-of, Valid};
 ghost use Rattle.writer.specs.Render.{with-history};
 ghost use Rattle.gate.specs.Plain.{step as step-call, withdraw as withdraw-call};
 ghost use Rattle.gate.specs.Gate.{Sound, OpenedAs, CalledAs};
@@ -40,13 +39,6 @@ pub struct Called {
 pub struct Opened {
     pub answer: Answer,
     pub gate: Gate,
-}
-
-// A byte as a number.
-fn wide(x: u8) -> usize
-    ensures { λ r. ⌜ r ≡ x ⌝ }
-{
-    x as usize
 }
 
 // The book without its history.
@@ -110,7 +102,7 @@ fn with_step(mut b: Book, r: u8) -> Book
     requires { ⌜ StepLeft b r ⌝ }
     ensures { λ x. ⌜ Represents (add-done (contents-of b) r) x ⌝ }
 {
-    let i = wide(r);
+    let i = book::wide(r);
     let n = b.done;
     let k = b.dones[i];
     b.history[n] = r;
@@ -142,7 +134,7 @@ fn step_value(g: Gate, r: u8) -> Called
 {
     let b = g.book;
     let withdrawn = g.withdrawn;
-    let i = wide(r);
+    let i = book::wide(r);
     match standing_of(b.runs, &b.lens, &b.dones, &withdrawn, i) {
         Standing::Refused(cause) => {
             return Called {
@@ -177,7 +169,7 @@ fn withdraw_value(g: Gate, r: u8) -> Called
 {
     let b = g.book;
     let withdrawn = g.withdrawn;
-    let i = wide(r);
+    let i = book::wide(r);
     match standing_of(b.runs, &b.lens, &b.dones, &withdrawn, i) {
         Standing::Refused(cause) => {
             return Called {
@@ -216,7 +208,7 @@ pub fn withdraw(g: &mut Gate, r: u8) -> Reply
     called.answer
 }
 
-// The same for callers that hold the record by value.
+// `step`, for a caller that holds the record by value.
 pub fn after_step(g: Gate, r: u8) -> Called
     requires { ⌜ Sound g ⌝ }
     ensures { λ called. ⌜ CalledAs g (step-call r) (called .answer) (called .gate) ⌝ }
@@ -226,6 +218,7 @@ pub fn after_step(g: Gate, r: u8) -> Called
     Called { answer, gate: h }
 }
 
+// `withdraw`, for a caller that holds the record by value.
 pub fn after_withdraw(g: Gate, r: u8) -> Called
     requires { ⌜ Sound g ⌝ }
     ensures { λ called. ⌜ CalledAs g (withdraw-call r) (called .answer) (called .gate) ⌝ }
@@ -272,7 +265,7 @@ fn answer_bytes(a: Reply) -> AnswerBytes
     }
 }
 
-// The offset of the first byte that is no call, or of a cut-off call; the length where there is neither.
+// The offset of the first call that is neither 0x53 nor 0x57, or is cut off; the length where there is none.
 fn bad_call(calls: &[u8]) -> usize
     ensures { λ r. ⌜ r ≡ bad-at 0 (now (calls .entry)) ⌝ }
 {

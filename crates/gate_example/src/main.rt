@@ -2,23 +2,10 @@
 use gate::Played;
 use libc::STDOUT_FILENO;
 
-fn write_digit(d: u8) {
-    if d < 10 {
-        let text = [48 + d];
-        io::write_all(STDOUT_FILENO, &text);
-    }
-}
-
 // A word, a number in base ten, and the line's end.
 fn write_line(word: &[u8], n: u8) {
     io::write_all(STDOUT_FILENO, word);
-    if n >= 100 {
-        write_digit(n / 100);
-    }
-    if n >= 10 {
-        write_digit(n / 10 % 10);
-    }
-    write_digit(n % 10);
+    io::print_decimal(STDOUT_FILENO, n as u64);
     io::write_all(STDOUT_FILENO, b"\n");
 }
 

@@ -13,7 +13,7 @@ use lib.Dec.{T, eqb, leb, eqb→eq}
 use borrow.Author.Tests.{leb-true, le-leb, lt-leb}
 use Rattle.book.specs.declared.Book.{Book}
 use Rattle.book.specs.Format.{kind-limit, run-limit, run-step-limit, step-limit, pick, sum}
-use Rattle.book.specs.Book.{marked, pair-of, cut-of, steps-at, runs-of-lengths, steps-of, lengths-of, history-of, contents-of, Valid}
+use Rattle.book.specs.Book.{run-cuts, marked, pair-of, cut-of, steps-at, runs-of-lengths, steps-of, lengths-of, history-of, contents-of, Valid}
 use Rattle.book.specs.Meaning.{conflict-of, unit-of}
 use Rattle.book.proofs.Books.{done-few}
 use Rattle.theory.specs.History.{suc-if, count, run, ordinal}
@@ -24,7 +24,7 @@ use Rattle.theory.proofs.Places.{Compared, eq-cases, eqb-of-eq, eqb-of-ne, ordi
 use Rattle.graph.specs.Marks.{Marks}
 use Rattle.graph.specs.Units.{Kept, UnitTables}
 use Rattle.graph.specs.Dependence.{Links, StepsRead}
-use Rattle.graph.specs.Tables.{run-cuts, Small, HistoryOf, Declared, Starts, Room, StepsByPlace, Link, Counts, CutsOf, EachBy, by-flag}
+use Rattle.graph.specs.Tables.{Small, HistoryOf, Declared, Starts, Room, StepsByPlace, Link, Counts, CutsOf, EachBy, by-flag}
 use Rattle.graph.specs.Arcs.{TablesOf, ArcRows}
 use Rattle.graph.proofs.Counting.{flag-none, flag-some, hist-length, hist-run, hist-small}
 use Rattle.graph.proofs.Steps.{sum-take, sum-take-le}

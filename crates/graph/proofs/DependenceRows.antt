@@ -1,4 +1,4 @@
--- Rows of the dependence table. Row q takes the places below q from the last down. A place that the row tells already adds nothing,
+-- Rows of the dependence table. Row q takes the places below q from the last down. A place that the row marks already adds nothing,
 -- since with a place the row has all that the place depends on.
 use Prim.Native.Nat.{ℕ, _+_, _-_, _≤_, _<_, max}
 use native.Mathlib.Decide.{ℕ-discrete}

@@ -1,4 +1,4 @@
--- The first and the last place of each unit. A step has those of the step next to it, unless the run that looks sees a cut between the two.
+-- The first and the last place of each unit. A step has those of the step next to it, unless there is a cut between the two as seen by the run.
 use Prim.Native.Nat.{ℕ, suc, _+_, _-_, _*_, _≤_, _<_}
 use native.Mathlib.Nat.{lt-of-not-le}
 use native.Mathlib.Decide.{ℕ-discrete, decLt}
@@ -15,7 +15,8 @@ use Rattle.theory.proofs.Places.{place-of, place-of-spec, place-of-ordinal, ord
 use Rattle.theory.proofs.Steps.{unit-refl, unit-sym}
 use Rattle.book.specs.Format.{run-limit, run-step-limit, step-limit}
 use Rattle.graph.specs.Units.{units-size, Each, Kept}
-use Rattle.graph.specs.Tables.{places-size, run-cuts, HistoryOf, Numbering, Counts, CutsOf, EachBy, RowRoom, RowSet, by-flag, inherited}
+use Rattle.book.specs.Book.{run-cuts}
+use Rattle.graph.specs.Tables.{places-size, HistoryOf, Numbering, Counts, CutsOf, EachBy, RowRoom, RowSet, by-flag, inherited}
 use Rattle.graph.proofs.UnitSteps.{first-from, last-from}
 use Rattle.graph.proofs.Counting.{low, below-next, flag-none, flag-some, hist-length, hist-run}
 

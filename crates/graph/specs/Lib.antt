@@ -1,4 +1,4 @@
--- The root of the specs of `graph`. What its public calls promise: Marks, Units. Answers: a test's answer. Dependence: the rows after each step of the history.
+-- What the public calls promise: Marks, Units. Answers: a test's answer. Dependence: the rows after each step of the history.
 -- Tables and Arcs are no part of the statement: what the functions inside promise one another.
 pub mod Answers
 pub mod Marks

@@ -6,7 +6,7 @@ use mathlib.Core.Bool.{Bool, true, false}
 use mathlib.Core.List.{List}
 use lib.ListN.{length, getD, take}
 use Rattle.book.specs.Format.{kind-limit, run-limit, run-step-limit, step-limit, sum}
-use Rattle.book.specs.Book.{cuts-size}
+use Rattle.book.specs.Book.{cuts-size, run-cuts}
 use Rattle.theory.specs.History.{count, run, ordinal}
 use Rattle.theory.proofs.Places.{place-of}
 use Rattle.bits.specs.Table.{bit-at}
@@ -15,10 +15,6 @@ use Rattle.graph.specs.Units.{Each}
 -- the size of a table of a place for each step, by run and ordinal
 abbrev pub places-size : ℕ
 places-size = run-limit * run-step-limit
-
--- how many entries a table of cuts has of each run
-abbrev pub run-cuts : ℕ
-run-cuts = run-step-limit * run-limit
 
 pub record Small (m : ℕ) (l : List ℕ) : Type 0 where
   pub small : (i : ℕ) → getD l i 0 < m
@@ -66,7 +62,7 @@ Link hist kinds positions pairs p q =
     ⊎ ((getD positions p 0 ≡ getD positions q 0)
     × ((getD pairs (getD kinds p 0 * kind-limit + getD kinds q 0) 0 ≢ 0) ⊎ (getD pairs (getD kinds q 0 * kind-limit + getD kinds p 0) 0 ≢ 0)))
 
--- q is linked to p, and the table t does not yet tell that it depends on it
+-- true only where q is linked to p; false only where it is not, or t tells already that q depends on p
 pub record Fresh (L : ℕ → ℕ → Type 0) (t : List ℕ) (p q : ℕ) (answer : Bool) : Type 0 where
   pub linked : answer ≡ true → L p q
   pub known : answer ≡ false → L p q → bit-at t q p ≡ 1

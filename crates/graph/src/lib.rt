@@ -31,16 +31,7 @@ pub type Units = [u8; UNITS_SIZE];
 // The size of a table of a place for each step, of run r and ordinal i at r * Book::RUN_STEPS + i.
 const PLACES_SIZE: usize = Book::RUNS * Book::RUN_STEPS;
 
-// How many entries a book's table of cuts has of each run.
-const RUN_CUTS: usize = Book::RUN_STEPS * Book::RUNS;
-
-fn wide(x: u8) -> usize
-    ensures { λ r. ⌜ (r ≡ x) × (r < 256) ⌝ }
-{
-    x as usize
-}
-
-// These do nothing: what owning an array tells of its length, told to a function that has it by `&mut`.
+// These have no effect: their contracts say how long the array is, for functions that hold it by `&mut`.
 fn sized_by_run(t: [u8; Book::RUNS])
     ensures { λ r. ⌜ length t ≡ run-limit ⌝ }
 {}
@@ -61,12 +52,20 @@ fn sized_units(t: Units)
     ensures { λ r. ⌜ length t ≡ units-size ⌝ }
 {}
 
-// What a table of runs or of kinds has of place p.
-fn number_at(t: &[u8; Book::STEPS], p: usize) -> usize
-    requires { ⌜ (p < step-limit) × Small run-limit (now t) ⌝ }
-    ensures { λ r. ⌜ NumberAt (now (t .entry)) p run-limit r ⌝ }
+// The run of place p.
+fn run_of(hist: &[u8; Book::STEPS], p: usize) -> usize
+    requires { ⌜ (p < step-limit) × Small run-limit (now hist) ⌝ }
+    ensures { λ r. ⌜ NumberAt (now (hist .entry)) p run-limit r ⌝ }
 {
-    wide(t[p])
+    book::wide(hist[p])
+}
+
+// The kind of the step at place p.
+fn kind_of(kinds: &[u8; Book::STEPS], p: usize) -> usize
+    requires { ⌜ (p < step-limit) × Small kind-limit (now kinds) ⌝ }
+    ensures { λ r. ⌜ NumberAt (now (kinds .entry)) p kind-limit r ⌝ }
+{
+    book::wide(kinds[p])
 }
 
 // Where each run's steps begin among the book's steps.
@@ -102,9 +101,9 @@ fn by_place(
         sized_by_run(*next);
         sized_by_place(*kinds_at);
         sized_positions(*positions_at);
-        let r = number_at(hist, p);
+        let r = run_of(hist, p);
         let i = next[r];
-        let s = wide(i);
+        let s = book::wide(i);
         kinds_at[p] = kinds[s];
         positions_at[p] = positions[s];
         next[r] = i + 1;
@@ -130,15 +129,15 @@ fn linked(
     if positions[p] != positions[q] {
         return false;
     }
-    let a = number_at(kinds, p);
-    let b = number_at(kinds, q);
+    let a = kind_of(kinds, p);
+    let b = kind_of(kinds, q);
     if pairs[a * Book::KINDS + b] != 0 {
         return true;
     }
     pairs[b * Book::KINDS + a] != 0
 }
 
-// Whether place q is linked to p and its row does not tell it yet.
+// Whether place q is linked to p, and its row does not mark p yet.
 fn fresh(
     hist: &[u8; Book::STEPS],
     kinds: &[u8; Book::STEPS],
@@ -160,7 +159,7 @@ fn fresh(
     false
 }
 
-// The row of place q, from the rows of the places before it. A place that the row tells already brings nothing new.
+// The row of place q, from the rows of the places before it. A place that the row marks already adds nothing: with it the row has all that it depends on.
 fn dependence_row(
     hist: &[u8; Book::STEPS],
     kinds: &[u8; Book::STEPS],
@@ -244,10 +243,10 @@ fn number(
     while p < n {
         sized_by_place(*ordinals);
         sized_by_step(*places);
-        let r = number_at(hist, p);
+        let r = run_of(hist, p);
         let i = counts[r];
         ordinals[p] = i;
-        let j = wide(i);
+        let j = book::wide(i);
         places[r * Book::RUN_STEPS + j] = p as u8;
         counts[r] = i + 1;
         p += 1;
@@ -298,13 +297,13 @@ fn unit_firsts(
 {
     let mut p = 0;
     while p < n {
-        let r = number_at(hist, p);
-        let i = wide(ordinals[p]);
+        let r = run_of(hist, p);
+        let i = book::wide(ordinals[p]);
         if i == 0 {
             own(t, p);
         } else {
-            let from = wide(places[r * Book::RUN_STEPS + i - 1]);
-            inherit(cuts, r * RUN_CUTS + i * Book::RUNS, t, p, from);
+            let from = book::wide(places[r * Book::RUN_STEPS + i - 1]);
+            inherit(cuts, r * Book::RUN_CUTS + i * Book::RUNS, t, p, from);
         }
         p += 1;
     }
@@ -326,11 +325,11 @@ fn unit_lasts(
     let mut p = n;
     while p > 0 {
         p -= 1;
-        let r = number_at(hist, p);
-        let i = wide(ordinals[p]) + 1;
-        if i < wide(counts[r]) {
-            let from = wide(places[r * Book::RUN_STEPS + i]);
-            inherit(cuts, r * RUN_CUTS + i * Book::RUNS, t, p, from);
+        let r = run_of(hist, p);
+        let i = book::wide(ordinals[p]) + 1;
+        if i < book::wide(counts[r]) {
+            let from = book::wide(places[r * Book::RUN_STEPS + i]);
+            inherit(cuts, r * Book::RUN_CUTS + i * Book::RUNS, t, p, from);
         } else {
             own(t, p);
         }
@@ -360,7 +359,7 @@ fn run_masks(hist: &[u8; Book::STEPS], n: usize, masks: &mut Table)
     *masks = [0; bits::TABLE_WORDS];
     let mut p = 0;
     while p < n {
-        let r = number_at(hist, p);
+        let r = run_of(hist, p);
         bits::mark(masks, r, p);
         p += 1;
     }
@@ -371,7 +370,7 @@ fn place_in(t: &Units, n: usize, p: usize, o: usize) -> usize
     requires { ⌜ Rowed n (now t) × (p < n) × (n ≤ step-limit) × (o < run-limit) ⌝ }
     ensures { λ r. ⌜ NumberAt (now (t .entry)) (p * run-limit + o) step-limit r ⌝ }
 {
-    wide(t[p * Book::RUNS + o])
+    book::wide(t[p * Book::RUNS + o])
 }
 
 // The arcs that come of what place q, of run s, depends on in another run r, whose places the mask has; l is the last such place.
@@ -416,7 +415,7 @@ fn arcs_between(
 {
     match bits::last_within(dep, q, mask) {
         Found::At(l) => {
-            let s = number_at(hist, q);
+            let s = run_of(hist, q);
             if r == s {
                 bits::mark(arc, q, l);
             } else {

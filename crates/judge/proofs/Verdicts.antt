@@ -36,6 +36,7 @@ module _ (history : List ℕ) (n : ℕ) (arc : List ℕ) (hs : Stored history n)
     unfolding h
     passed-as t ta law e order order′ cycle c = record {
       serializable = record { order = g; evidence = evidence };
+      taken = turns conflict unit h (length h);
       greedy = turns-greedy conflict unit h (length h);
       evidence = evidence;
       count-is = sym n-is;

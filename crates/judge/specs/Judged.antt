@@ -6,23 +6,20 @@ use mathlib.Core.List.{List, _++_}
 use lib.ListN.{length, drop}
 use Rattle.theory.specs.Relative.{RelativelySerialOrder, RelativelySerializable}
 use Rattle.theory.specs.Graph.{Cycle, Greedy}
-use Rattle.theory.proofs.Greedy.{turns}
 use Rattle.judge.specs.declared.Verdict.{Verdict}
 use Rattle.judge.specs.declared.Verdict.the-variants.{Refused, Passed, Tangled}
 
--- the run numbers of the order which at each turn takes the smallest place not yet taken whose arc sources are all taken
-abbrev pub smallest-first : (ℕ → ℕ → ℕ → ℕ → Bool) → (ℕ → ℕ → ℕ → ℕ) → List ℕ → List ℕ
-smallest-first conflict unit h = turns conflict unit h (length h)
-
 -- order and cycle are the buffers before the call, order′ and cycle′ after it
 module _ (conflict : ℕ → ℕ → ℕ → ℕ → Bool) (unit : ℕ → ℕ → ℕ → ℕ) (h order order′ cycle cycle′ : List ℕ) where
-  -- 01: the order buffer begins with that order; the count is the number of done steps; all else is unchanged
+  -- 01: the order buffer begins with the run numbers of the order which at each turn takes the smallest place not yet taken whose arc sources are
+  -- all taken; the count is the number of done steps; all else is unchanged. There is one such list of that length (theory's `greedy-unique`)
   pub record PassedAs (count : ℕ) : Type 0 where
     pub serializable : RelativelySerializable conflict unit h
-    pub greedy : Greedy conflict unit h (smallest-first conflict unit h)
-    pub evidence : RelativelySerialOrder conflict unit h (smallest-first conflict unit h)
+    pub taken : List ℕ
+    pub greedy : Greedy conflict unit h taken
+    pub evidence : RelativelySerialOrder conflict unit h taken
     pub count-is : count ≡ length h
-    pub order-is : order′ ≡ smallest-first conflict unit h ++ drop (length h) order
+    pub order-is : order′ ≡ taken ++ drop (length h) order
     pub cycle-kept : cycle′ ≡ cycle
 
   -- 01: the cycle buffer begins with a cycle, one byte a place, and the count is its length; all else is unchanged

@@ -1,4 +1,4 @@
--- The root of the specs of `judge`.
+-- Judged: what a verdict says. Judge: what the judge of a book's bytes promises. Front: the second call. Inner is no part of the statement.
 pub mod Judged
 pub mod Judge
 pub mod Front

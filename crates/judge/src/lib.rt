@@ -19,7 +19,7 @@ ghost use Rattle.judge.specs.Front.{front-of};
 ghost use Rattle.judge.specs.declared.Verdict.the-variants.{Refused};
 ghost use Rattle.judge.specs.Inner.{ReadyIn, AllTaken, FirstUntaken, FirstReady, Stored, TurnsTaken, Stuck, CycleIn, Copied, Graph, JudgedArcs};
 
-// Refused: the cause and the place.
+// What the judge says of a history: passed, if it is relatively serializable, else tangled; or refused, with the cause and the place.
 pub enum Verdict {
     Refused(Cause, usize),
     Passed,
@@ -239,7 +239,7 @@ pub fn judge(s: &[u8], order: &mut [u8], cycle: &mut [u8]) -> Judgement
     }
 }
 
-// The filled part of the buffer that the verdict used: its first bytes, as many as the count, or an empty part if it is shorter.
+// The filled part of the buffer that the verdict used: its first bytes, as many as the count; an empty part if it is shorter or the judge refused.
 pub fn front<'a>(order: &'a [u8], cycle: &'a [u8], verdict: Verdict, count: usize) -> &'a [u8]
     ensures { λ r. ⌜ now r ≡ front-of verdict count (now (order .entry)) (now (cycle .entry)) ⌝ }
 {

@@ -5,19 +5,13 @@ use libc::STDOUT_FILENO;
 ghost use Prim.Native.Nat.{_<_};
 ghost use lib.ListN.{length};
 
-fn wide(x: u8) -> usize
-    ensures { λ r. ⌜ r < 256 ⌝ }
-{
-    x as usize
-}
-
 fn write_number(n: usize) {
     io::print_decimal(STDOUT_FILENO, n as u64);
 }
 
 fn write_refused(number: u8, place: usize) {
     io::write_all(STDOUT_FILENO, b": refused ");
-    write_number(wide(number));
+    write_number(book::wide(number));
     io::write_all(STDOUT_FILENO, b" at ");
     write_number(place);
 }
@@ -37,19 +31,19 @@ fn write_answer(s: &[u8]) {
     io::write_all(STDOUT_FILENO, b"\n");
 }
 
-// The book at a place; answers the place behind it, or the end where no whole book stands there.
+// Shows the book at an offset; answers the offset behind it, or the end where no whole book is there.
 fn show(s: &[u8], at: usize) -> usize
     requires { ⌜ at < length (now s) ⌝ }
     ensures { λ r. ⌜ at < r ⌝ }
 {
     let label = at + 1;
-    let size = label + wide(s[at]);
+    let size = label + book::wide(s[at]);
     let body = size + 2;
     if body > s.len() {
         return s.len();
     }
     let low = size + 1;
-    let end = body + wide(s[size]) * 256 + wide(s[low]);
+    let end = body + book::wide(s[size]) * 256 + book::wide(s[low]);
     if end > s.len() {
         return s.len();
     }

@@ -11,7 +11,6 @@ use borrow.Author.Tests.{le-leb}
 use Rattle.theory.specs.History.{Serial}
 use Rattle.theory.specs.Relative.{RelativelyAtomic, RelativelySerial, ConflictSerializable}
 use Rattle.theory.specs.Rows.{Is}
-use Rattle.theory.proofs.Greedy.{turns}
 use Rattle.book.specs.Format.{Contents, accepted, step-limit, pick, read}
 use Rattle.book.specs.Numbers.{number}
 use Rattle.book.specs.Meaning.{conflict-of, unit-of}
@@ -80,9 +79,9 @@ module _ (order order′ cycle cycle′ : List ℕ) (same : length order′ ≡ 
       → VerdictOn c (verdict-by (is-passed v) (front-of v n order′ cycle′))
   verdict-on c few (JudgeRefused cause place) n j = absurd j
   verdict-on c few Passed n j =
-      let whole = turns (conflict-of c) (unit-of c) (c .history) (length (c .history)) in
-      let size : length (c .history) ≡ length whole = put-size whole order order′ (length (c .history)) (j .order-is) same (omega arith) in
-      (j .serializable, rw (j .order-is) (first-is whole (drop (length (c .history)) order) n (j .count-is ∙ size)))
+      let size : length (c .history) ≡ length (j .taken) = put-size (j .taken) order order′ (length (c .history)) (j .order-is) same (omega arith) in
+      let front : first-bytes n order′ ≡ j .taken = rw (j .order-is) (first-is (j .taken) (drop (length (c .history)) order) n (j .count-is ∙ size)) in
+      (rw front (j .evidence), rw front (j .greedy))
   verdict-on c few Tangled n j =
       (j .not-serializable, rw (j .cycle-is, first-is (j .places) (drop (length (j .places)) cycle) n (j .count-is)) (j .evidence))
 

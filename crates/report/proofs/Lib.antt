@@ -1,3 +1,4 @@
+-- The laws behind the proofs of `report`.
 pub mod WithinLaws
 pub mod Decimals
 pub mod NumberLaws

@@ -5,10 +5,9 @@ use mathlib.Core.Bool.{Bool}
 use mathlib.Core.List.{List, _++_}
 use lib.ListN.{length, drop}
 use Rattle.theory.specs.History.{Serial}
-use Rattle.theory.specs.Relative.{RelativelyAtomic, RelativelySerial, ConflictSerializable, RelativelySerializable}
-use Rattle.theory.specs.Graph.{Cycle}
+use Rattle.theory.specs.Relative.{RelativelyAtomic, RelativelySerial, ConflictSerializable, RelativelySerializable, RelativelySerialOrder}
+use Rattle.theory.specs.Graph.{Cycle, Greedy}
 use Rattle.theory.specs.Rows.{Is}
-use Rattle.theory.proofs.Greedy.{turns}
 use Rattle.book.specs.Format.{Contents, Outcome, refused, accepted, step-limit, read}
 use Rattle.book.specs.Numbers.{number}
 use Rattle.book.specs.Meaning.{conflict-of, unit-of}
@@ -18,9 +17,10 @@ use Rattle.report.specs.declared.Reported.the-variants.{Length, BufferSh
 
 -- ---- what is said of a book
 
--- passed, with the order which at each turn takes the smallest place not yet taken whose arc sources are all taken; or tangled, with a cycle
+-- passed, with the order which at each turn takes the smallest place not yet taken whose arc sources are all taken; or tangled, with a cycle.
+-- There is one such order (theory's `greedy-unique`)
 abbrev pub VerdictOn : Contents → Verdict → Type 0
-VerdictOn c (passed order) = RelativelySerializable (conflict-of c) (unit-of c) (c .history) × (order ≡ turns (conflict-of c) (unit-of c) (c .history) (length (c .history)))
+VerdictOn c (passed order) = RelativelySerialOrder (conflict-of c) (unit-of c) (c .history) order × Greedy (conflict-of c) (unit-of c) (c .history) order
 VerdictOn c (tangled cycle) = (¬ RelativelySerializable (conflict-of c) (unit-of c) (c .history)) × Cycle (conflict-of c) (unit-of c) (c .history) cycle
 
 -- the four classes of an accepted book; `Is b P` says that P holds exactly where b is true
@@ -55,7 +55,7 @@ pub record TextPut (s before after : List ℕ) (n : ℕ) : Type 0 where
   pub buffer : after ≡ text-of report ++ drop (length (text-of report)) before
   pub length-is : n ≡ length (text-of report)
 
--- the answer is the text's length, or that the buffer is short; for that document 01 has no number, since the program's buffer is not
+-- the answer is the text's length, or that the buffer is short; document 01 has no number for that, since the program's own buffer is long enough
 abbrev pub ReportedAs : List ℕ → List ℕ → List ℕ → Reported → Type 0
 ReportedAs s before after (Length n) = (text-limit ≤ length before) × TextPut s before after n
 ReportedAs s before after BufferShort = (length before < text-limit) × (after ≡ before)

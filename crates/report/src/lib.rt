@@ -37,12 +37,6 @@ struct Classes {
     conflict: bool,
 }
 
-fn wide(x: u8) -> usize
-    ensures { λ r. ⌜ (r ≡ x) × (r < 256) ⌝ }
-{
-    x as usize
-}
-
 // The bytes bs.
 fn put_bytes(bs: &[u8], out: &mut [u8]) -> usize
     requires { ⌜ length (now bs) ≤ length (now out) ⌝ }
@@ -100,7 +94,7 @@ fn put_number(x: u8, out: &mut [u8]) -> usize
     ensures { λ r. ⌜ PutWithin 4 (blank ∷ decimal x) (now (out .entry)) (now (out .exit)) r ⌝ }
 {
     let n = put_byte(b' ', &mut out[..]);
-    let m = put_small(wide(x), &mut out[n..]);
+    let m = put_small(book::wide(x), &mut out[n..]);
     n + m
 }
 
@@ -209,7 +203,7 @@ fn put_refused(number: u8, place: usize, out: &mut [u8]) -> usize
     ensures { λ r. ⌜ PutWithin 36 (text-of (refused-at number place)) (now (out .entry)) (now (out .exit)) r ⌝ }
 {
     let n1 = put_bytes(b"refused ", &mut out[..]);
-    let n2 = put_small(wide(number), &mut out[n1..]);
+    let n2 = put_small(book::wide(number), &mut out[n1..]);
     let number_end = n1 + n2;
     let n3 = put_bytes(b" at ", &mut out[number_end..]);
     let at = number_end + n3;

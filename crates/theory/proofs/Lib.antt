@@ -1,3 +1,4 @@
+-- The theorems on relative serializability, and the lemmas behind them.
 pub mod Places
 pub mod Finite
 pub mod Steps

@@ -11,44 +11,40 @@ use lib.ListN.{length, getD, drop, length-drop, drop-of-length-le}
 use lib.Seq.{drop-cons, getD-drop}
 use lib.Dec.{ltb, leb, eqb}
 use Rattle.theory.specs.History.{count}
-use Rattle.book.specs.Format.{kind-limit, run-limit, run-step-limit, step-limit, Contents, State, Outcome, Move, Test, on, over, refused, accepted, check, checks, pick, byte, last, sum, lengths, above-pair, above-cut, add-pair, add-run, add-step, add-cut, add-done, pair-tests, run-tests, step-tests, cut-tests, done-tests, pair-at, run-at, step-at, cut-at, done-at, end-at, command-at, follow, start}
+use Rattle.book.specs.Format.{kind-limit, run-limit, run-step-limit, step-limit, Contents, ReadState, Outcome, Move, Test, on, over, refused, accepted, check, checks, pick, byte, Bytes, last, sum, lengths, above-pair, above-cut, add-pair, add-run, add-step, add-cut, add-done, pair-tests, run-tests, step-tests, cut-tests, done-tests, pair-at, run-at, step-at, cut-at, done-at, end-at, command-at, follow, start}
 use Rattle.book.specs.declared.Cause.{Cause}
 use Rattle.book.specs.declared.Cause.the-variants.{EndsEarly, NoCommand, BytesAfterEnd}
 
--- bytes
-abbrev pub Bytes : List ℕ → Type 0
-Bytes s = (i : ℕ) → getD s i 0 < 256
-
 -- ---- where a command leads
 
-abbrev pub after-pair : State → ℕ → ℕ → State
+abbrev pub after-pair : ReadState → ℕ → ℕ → ReadState
 after-pair t a b = record { group = 0; contents = add-pair (t .contents) a b }
 
-abbrev pub after-run : State → State
+abbrev pub after-run : ReadState → ReadState
 after-run t = record { group = 1; contents = add-run (t .contents) }
 
-abbrev pub after-step : State → ℕ → ℕ → State
+abbrev pub after-step : ReadState → ℕ → ℕ → ReadState
 after-step t k p = record { group = 1; contents = add-step (t .contents) k p }
 
-abbrev pub after-cut : State → ℕ → ℕ → ℕ → State
+abbrev pub after-cut : ReadState → ℕ → ℕ → ℕ → ReadState
 after-cut t r j o = record { group = 2; contents = add-cut (t .contents) r j o }
 
-abbrev pub after-done : State → ℕ → State
+abbrev pub after-done : ReadState → ℕ → ReadState
 after-done t r = record { group = 3; contents = add-done (t .contents) r }
 
 -- ---- when a command is allowed
 
-pub record PairAllowed (t : State) (a b : ℕ) : Type 0 where
+pub record PairAllowed (t : ReadState) (a b : ℕ) : Type 0 where
   pub group : t .group ≤ 0
   pub kind : b < kind-limit
   pub ordered : a ≤ b
   pub rises : above-pair (t .contents .pairs) a b ≡ true
 
-pub record RunAllowed (t : State) : Type 0 where
+pub record RunAllowed (t : ReadState) : Type 0 where
   pub group : t .group ≤ 1
   pub runs : length (t .contents .runs) < run-limit
 
-pub record StepAllowed (t : State) (k high low : ℕ) : Type 0 where
+pub record StepAllowed (t : ReadState) (k high low : ℕ) : Type 0 where
   pub group : t .group ≤ 1
   pub declared : 0 < length (t .contents .runs)
   pub kind : k < kind-limit
@@ -57,7 +53,7 @@ pub record StepAllowed (t : State) (k high low : ℕ) : Type 0 where
   pub high-byte : high < 256
   pub low-byte : low < 256
 
-pub record CutAllowed (t : State) (r j o : ℕ) : Type 0 where
+pub record CutAllowed (t : ReadState) (r j o : ℕ) : Type 0 where
   pub group : t .group ≤ 2
   pub declared : r < length (t .contents .runs)
   pub viewer : o < length (t .contents .runs)
@@ -66,26 +62,26 @@ pub record CutAllowed (t : State) (r j o : ℕ) : Type 0 where
   pub inside : j < getD (lengths (t .contents .runs)) r 0
   pub rises : above-cut (t .contents .cuts) r j o ≡ true
 
-pub record DoneAllowed (t : State) (r : ℕ) : Type 0 where
+pub record DoneAllowed (t : ReadState) (r : ℕ) : Type 0 where
   pub declared : r < length (t .contents .runs)
   pub left : count (t .contents .history) r < getD (lengths (t .contents .runs)) r 0
 
 -- a command with these bytes leads from one state to another
-pub data Command : State → List ℕ → State → Type 0 where
-  pair : {t : State} (a b : ℕ) → PairAllowed t a b → Command t (0x43 ∷ a ∷ b ∷ []) (after-pair t a b)
-  run : {t : State} → RunAllowed t → Command t (0x52 ∷ length (t .contents .runs) ∷ []) (after-run t)
-  step : {t : State} (k high low : ℕ) → StepAllowed t k high low → Command t (0x53 ∷ k ∷ high ∷ low ∷ []) (after-step t k (high * 256 + low))
-  cut : {t : State} (r j o : ℕ) → CutAllowed t r j o → Command t (0x42 ∷ r ∷ j ∷ o ∷ []) (after-cut t r j o)
-  done : {t : State} (r : ℕ) → DoneAllowed t r → Command t (0x48 ∷ r ∷ []) (after-done t r)
+pub data Command : ReadState → List ℕ → ReadState → Type 0 where
+  pair : {t : ReadState} (a b : ℕ) → PairAllowed t a b → Command t (0x43 ∷ a ∷ b ∷ []) (after-pair t a b)
+  run : {t : ReadState} → RunAllowed t → Command t (0x52 ∷ length (t .contents .runs) ∷ []) (after-run t)
+  step : {t : ReadState} (k high low : ℕ) → StepAllowed t k high low → Command t (0x53 ∷ k ∷ high ∷ low ∷ []) (after-step t k (high * 256 + low))
+  cut : {t : ReadState} (r j o : ℕ) → CutAllowed t r j o → Command t (0x42 ∷ r ∷ j ∷ o ∷ []) (after-cut t r j o)
+  done : {t : ReadState} (r : ℕ) → DoneAllowed t r → Command t (0x48 ∷ r ∷ []) (after-done t r)
 
 -- the states that commands lead to from the start
-pub data WellFormed : State → Type 0 where
+pub data WellFormed : ReadState → Type 0 where
   empty : WellFormed start
-  more : {t u : State} {xs : List ℕ} → WellFormed t → Command t xs u → WellFormed u
+  more : {t u : ReadState} {xs : List ℕ} → WellFormed t → Command t xs u → WellFormed u
 
 -- the contents of a book: commands lead there from the start
 pub record IsBook (c : Contents) : Type 0 where
-  pub state : State
+  pub state : ReadState
   pub well-formed : WellFormed state
   pub contents : state .contents ≡ c
 
@@ -104,7 +100,7 @@ module _ (s : List ℕ) (at : ℕ) (l : List ℕ) (e : drop at s ≡ l) where
   length-at : length s - at ≡ length l
   length-at = sym (length-drop at s) ∙ ap length e
 
-pub command-read : {t u : State} {xs : List ℕ} (s rest : List ℕ) (at : ℕ) → Command t xs u → drop at s ≡ xs ++ rest → command-at s at t ≡ on (at + length xs) u
+pub command-read : {t u : ReadState} {xs : List ℕ} (s rest : List ℕ) (at : ℕ) → Command t xs u → drop at s ≡ xs ++ rest → command-at s at t ≡ on (at + length xs) u
 unfolding command-at pair-at run-at step-at cut-at done-at pair-tests run-tests step-tests cut-tests done-tests
 command-read s rest at (pair {t} a b h) e =
     let n = length-at s at _ e in
@@ -138,7 +134,7 @@ command-read s rest at (done {t} r h) e =
     (rw (le-leb 2 (length s - at) (omega arith), lt-ltb r _ (h .declared), lt-ltb _ _ (h .left))))
 
 -- and so is the end
-pub end-read : (s : List ℕ) (at : ℕ) (t : State) → drop at s ≡ 0x45 ∷ [] → command-at s at t ≡ over (accepted (t .contents))
+pub end-read : (s : List ℕ) (at : ℕ) (t : ReadState) → drop at s ≡ 0x45 ∷ [] → command-at s at t ≡ over (accepted (t .contents))
 unfolding command-at end-at
 end-read s at t e =
     let n = length-at s at _ e in
@@ -150,18 +146,18 @@ end-read s at t e =
 pub not-accepted : {P : Type 0} (c : Cause) (p : ℕ) (d : Contents) → refused c p ≡ accepted d → P
 not-accepted c p d e = let z : _≡_ {A = ℕ} 0 1 = cc in absurd (omega arith)
 
-check-passed : (b : Bool) (c : Cause) (p : ℕ) (m : Move) (f : ℕ → State → Outcome) (d : Contents) → follow (check b c p m) f ≡ accepted d → (b ≡ true) × (follow m f ≡ accepted d)
+check-passed : (b : Bool) (c : Cause) (p : ℕ) (m : Move) (f : ℕ → ReadState → Outcome) (d : Contents) → follow (check b c p m) f ≡ accepted d → (b ≡ true) × (follow m f ≡ accepted d)
 check-passed true c p m f d e = (refl, e)
 check-passed false c p m f d e = not-accepted c p d e
 
-checks-passed : (cs : List Test) (at : ℕ) (m : Move) (f : ℕ → State → Outcome) (d : Contents) → follow (checks cs at m) f ≡ accepted d → Passed cs × (follow m f ≡ accepted d)
+checks-passed : (cs : List Test) (at : ℕ) (m : Move) (f : ℕ → ReadState → Outcome) (d : Contents) → follow (checks cs at m) f ≡ accepted d → Passed cs × (follow m f ≡ accepted d)
 checks-passed [] at m f d e = (tt, e)
 checks-passed (c ∷ cs) at m f d e =
     let h : (c .holds ≡ true) × (follow (checks cs at m) f ≡ accepted d) = check-passed (c .holds) (c .cause) at (checks cs at m) f d e in
     let r : Passed cs × (follow m f ≡ accepted d) = checks-passed cs at m f d (h .1) in
     ((h .0, r .0), r .1)
 
-branch : {P : Type 0} (x n : ℕ) (m o : Move) (f : ℕ → State → Outcome) (d : Contents) → follow (pick (eqb x n) m o) f ≡ accepted d
+branch : {P : Type 0} (x n : ℕ) (m o : Move) (f : ℕ → ReadState → Outcome) (d : Contents) → follow (pick (eqb x n) m o) f ≡ accepted d
     → (x ≡ n → follow m f ≡ accepted d → P) → (follow o f ≡ accepted d → P) → P
 branch {P} x n m o f d e g h = go (eqb x n) (λ b. eqb-true x n b) e
   where
@@ -184,11 +180,11 @@ drop-4 : (s : List ℕ) (at : ℕ) → at + 4 ≤ length s
 drop-4 s at h = let e : at + 4 ≡ at + 3 + 1 = omega arith in rw (drop-3 s at (omega arith), e, drop-1 s (at + 3) (omega arith))
 
 -- how an accepting reader goes on
-pub data Next (s : List ℕ) (at : ℕ) (t : State) (f : ℕ → State → Outcome) (d : Contents) : Type 0 where
-  command : {xs : List ℕ} {u : State} → Command t xs u → drop at s ≡ xs ++ drop (at + length xs) s → f (at + length xs) u ≡ accepted d → Next s at t f d
+pub data Next (s : List ℕ) (at : ℕ) (t : ReadState) (f : ℕ → ReadState → Outcome) (d : Contents) : Type 0 where
+  command : {xs : List ℕ} {u : ReadState} → Command t xs u → drop at s ≡ xs ++ drop (at + length xs) s → f (at + length xs) u ≡ accepted d → Next s at t f d
   end : drop at s ≡ 0x45 ∷ [] → t .contents ≡ d → Next s at t f d
 
-module _ (s : List ℕ) (bytes : Bytes s) (at : ℕ) (t : State) (f : ℕ → State → Outcome) (d : Contents) where
+module _ (s : List ℕ) (bytes : Bytes s) (at : ℕ) (t : ReadState) (f : ℕ → ReadState → Outcome) (d : Contents) where
   pair-next : getD s at 0 ≡ 0x43 → follow (pair-at s at t) f ≡ accepted d → Next s at t f d
   unfolding pair-at pair-tests
   pair-next c e =

@@ -9,7 +9,7 @@ use lib.ListN.{length, getD}
 use lib.Dec.{eqb}
 use Rattle.theory.specs.History.{count, suc-if}
 use Rattle.theory.specs.Deck.{Step}
-use Rattle.book.specs.Format.{Contents, State, lengths, start}
+use Rattle.book.specs.Format.{Contents, ReadState, lengths, start}
 use Rattle.writer.specs.Render.{with-history, Allowed}
 use Rattle.writer.proofs.FormatLaws.{after-done, Command, pair, run, step, cut, done, WellFormed, empty, more, IsBook}
 use Rattle.writer.proofs.RenderLaws.{Grouped, grouped}
@@ -34,7 +34,7 @@ declared c r h = rw (← length-lengths) (inside (lengths (c .runs)) r h)
 
 -- ---- a book's own history is one that its runs allow
 
-command-allowed : {t u : State} {xs : List ℕ} → Command t xs u → Grouped t → Allowed (t .contents .history) (t .contents) → Allowed (u .contents .history) (u .contents)
+command-allowed : {t u : ReadState} {xs : List ℕ} → Command t xs u → Grouped t → Allowed (t .contents .history) (t .contents) → Allowed (u .contents .history) (u .contents)
 command-allowed (pair a b h) g w r = w r
 command-allowed (run h) g w r = rw (g .history (omega (arith, h .group))) zero-le
 command-allowed (step k high low h) g w r = rw (g .history (omega (arith, h .group))) zero-le
@@ -46,17 +46,17 @@ command-allowed (done {t} q h) g w r = rw (count-append (t .contents .history) (
     go true e l = rw (← e refl) (omega (arith, h .left))
     go false e l = omega arith
 
-pub well-formed-allowed : {t : State} → WellFormed t → Allowed (t .contents .history) (t .contents)
+pub well-formed-allowed : {t : ReadState} → WellFormed t → Allowed (t .contents .history) (t .contents)
 well-formed-allowed empty = λ r. zero-le
 well-formed-allowed (more w c) = command-allowed c (grouped w) (well-formed-allowed w)
 
 -- ---- a book with another history is a book
 
 -- where no 48 has come
-not-begun : {t : State} → WellFormed t → t .group ≤ 2 → IsBook (with-history (t .contents) [])
+not-begun : {t : ReadState} → WellFormed t → t .group ≤ 2 → IsBook (with-history (t .contents) [])
 not-begun {t} w g = record { state = t; well-formed = w; contents = rw (← grouped w .history g) }
 
-without-history : {t : State} → WellFormed t → IsBook (with-history (t .contents) [])
+without-history : {t : ReadState} → WellFormed t → IsBook (with-history (t .contents) [])
 without-history empty = record { state = start; well-formed = empty; contents = refl }
 without-history (more w (done r h)) = without-history w
 without-history (more w (pair {t} a b h)) = not-begun (more w (pair a b h)) zero-le

@@ -5,7 +5,7 @@ use mathlib.Core.List.{List, [], _∷_, _++_, append-assoc, append-nil}
 use native.Mathlib.Omega.{arith}
 use lib.ListN.{length}
 use Rattle.theory.specs.Deck.{Pair, Step, Cut}
-use Rattle.book.specs.Format.{Contents, State, add-last, add-pair, add-run, add-step, add-cut, add-done}
+use Rattle.book.specs.Format.{Contents, ReadState, add-last, add-pair, add-run, add-step, add-cut, add-done}
 use Rattle.writer.specs.Render.{pair-bytes, step-bytes, run-bytes, cut-bytes, done-bytes, command-bytes}
 use Rattle.writer.proofs.FormatLaws.{Command, pair, run, step, cut, done, WellFormed, empty, more}
 
@@ -57,23 +57,23 @@ module _ (c : Contents) where
   add-done-bytes r = simp (done-bytes-append, append-assoc)
 
 -- no group after the last command's has begun
-pub record Grouped (t : State) : Type 0 where
+pub record Grouped (t : ReadState) : Type 0 where
   pub runs : t .group ≤ 0 → t .contents .runs ≡ []
   pub cuts : t .group ≤ 1 → t .contents .cuts ≡ []
   pub history : t .group ≤ 2 → t .contents .history ≡ []
 
-command-grouped : {t u : State} {xs : List ℕ} → Command t xs u → Grouped t → Grouped u
+command-grouped : {t u : ReadState} {xs : List ℕ} → Command t xs u → Grouped t → Grouped u
 command-grouped (pair a b h) g = record { runs = λ _. g .runs (h .group); cuts = λ _. g .cuts (omega arith); history = λ _. g .history (omega arith) }
 command-grouped (run h) g = record { runs = λ z. absurd (omega arith); cuts = λ _. g .cuts (h .group); history = λ _. g .history (omega arith) }
 command-grouped (step k high low h) g = record { runs = λ z. absurd (omega arith); cuts = λ _. g .cuts (h .group); history = λ _. g .history (omega arith) }
 command-grouped (cut r j o h) g = record { runs = λ z. absurd (omega arith); cuts = λ z. absurd (omega arith); history = λ _. g .history (h .group) }
 command-grouped (done r h) g = record { runs = λ z. absurd (omega arith); cuts = λ z. absurd (omega arith); history = λ z. absurd (omega arith) }
 
-pub grouped : {t : State} → WellFormed t → Grouped t
+pub grouped : {t : ReadState} → WellFormed t → Grouped t
 grouped empty = record { runs = λ _. refl; cuts = λ _. refl; history = λ _. refl }
 grouped (more w c) = command-grouped c (grouped w)
 
-pub command-adds : {t u : State} {xs : List ℕ} → Command t xs u → Grouped t → command-bytes (u .contents) ≡ command-bytes (t .contents) ++ xs
+pub command-adds : {t u : ReadState} {xs : List ℕ} → Command t xs u → Grouped t → command-bytes (u .contents) ≡ command-bytes (t .contents) ++ xs
 command-adds (pair {t} a b h) g = add-pair-bytes (t .contents) a b (g .runs (h .group)) (g .cuts (omega (arith, h .group))) (g .history (omega (arith, h .group)))
 command-adds (run {t} h) g = add-run-bytes (t .contents) (g .cuts (h .group)) (g .history (omega (arith, h .group)))
 command-adds (step {t} k high low h) g =

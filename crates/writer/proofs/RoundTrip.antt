@@ -9,10 +9,10 @@ use borrow.Author.Tests.{le-leb}
 use lib.ListN.{length, drop, length-append}
 use lib.Seq.{drop-append-seam}
 use lib.Dec.{leb}
-use Rattle.book.specs.Format.{length-limit, Contents, State, refused, accepted, over, pick, lengths, command-at, read-from, read-commands, read, start}
+use Rattle.book.specs.Format.{Bytes, length-limit, Contents, ReadState, refused, accepted, over, pick, lengths, command-at, read-from, read-commands, read, start}
 use Rattle.book.specs.declared.Cause.the-variants.{EndsEarly, BookTooLong}
 use Rattle.writer.specs.Render.{command-bytes, render, with-history, Allowed}
-use Rattle.writer.proofs.FormatLaws.{Bytes, Command, pair, run, step, cut, done, WellFormed, empty, more, IsBook, Next, command, end, next, command-read, end-read, not-accepted}
+use Rattle.writer.proofs.FormatLaws.{Command, pair, run, step, cut, done, WellFormed, empty, more, IsBook, Next, command, end, next, command-read, end-read, not-accepted}
 use Rattle.writer.proofs.RenderLaws.{grouped, command-adds}
 use Rattle.writer.proofs.Sizes.{Few, few, sum-take, render-short}
 use Rattle.writer.proofs.Histories.{well-formed-allowed, history-book}
@@ -24,13 +24,13 @@ record Accepted (s : List ℕ) (c : Contents) : Type 0 where
   bytes : render c ≡ s
 
 -- from a state on, whose bytes stand before the place
-read-on : (k : ℕ) (s : List ℕ) → Bytes s → (at : ℕ) (t : State) (c : Contents) → WellFormed t → command-bytes (t .contents) ++ drop at s ≡ s
+read-on : (k : ℕ) (s : List ℕ) → Bytes s → (at : ℕ) (t : ReadState) (c : Contents) → WellFormed t → command-bytes (t .contents) ++ drop at s ≡ s
     → read-from k s at t ≡ accepted c → Accepted s c
 unfolding read-from
 read-on zero s bytes at t c w b e = not-accepted EndsEarly at c e
 read-on (suc k) s bytes at t c w b e = go (read-on k s bytes) (next s bytes at t (read-from k s) c e)
   where
-    go : ((at : ℕ) (t : State) (c : Contents) → WellFormed t → command-bytes (t .contents) ++ drop at s ≡ s → read-from k s at t ≡ accepted c → Accepted s c)
+    go : ((at : ℕ) (t : ReadState) (c : Contents) → WellFormed t → command-bytes (t .contents) ++ drop at s ≡ s → read-from k s at t ≡ accepted c → Accepted s c)
         → Next s at t (read-from k s) c → Accepted s c
     go later (command {xs} {u} x d f) = later (at + length xs) u c (more w x) (rw (command-adds x (grouped w), append-assoc, ← d) b) f
     go later (end d q) = record {
@@ -55,24 +55,24 @@ render-read s c bytes e = read-accepted s c bytes e .bytes
 
 -- ---- the bytes of a book are read as that book
 
-commands : {t : State} → WellFormed t → ℕ
+commands : {t : ReadState} → WellFormed t → ℕ
 commands empty = 0
 commands (more w c) = suc (commands w)
 
-command-long : {t u : State} {xs : List ℕ} → Command t xs u → 1 ≤ length xs
+command-long : {t u : ReadState} {xs : List ℕ} → Command t xs u → 1 ≤ length xs
 command-long (pair a b h) = omega arith
 command-long (run h) = omega arith
 command-long (step k high low h) = omega arith
 command-long (cut r j o h) = omega arith
 command-long (done r h) = omega arith
 
-commands-short : {t : State} (w : WellFormed t) → commands w ≤ length (command-bytes (t .contents))
+commands-short : {t : ReadState} (w : WellFormed t) → commands w ≤ length (command-bytes (t .contents))
 unfolding commands
 commands-short empty = zero-le
 commands-short (more {t} {u} {xs} w c) =
     omega (arith, commands-short w, command-long c, ap length (command-adds c (grouped w)), length-append (command-bytes (t .contents)) xs)
 
-read-along : {t : State} (w : WellFormed t) (s rest : List ℕ) → s ≡ command-bytes (t .contents) ++ rest → (m : ℕ)
+read-along : {t : ReadState} (w : WellFormed t) (s rest : List ℕ) → s ≡ command-bytes (t .contents) ++ rest → (m : ℕ)
     → read-from (m + commands w) s 0 start ≡ read-from m s (length (command-bytes (t .contents))) t
 unfolding commands read-from
 read-along empty s rest e m = let z : m + 0 ≡ m = omega arith in rw z
@@ -85,7 +85,7 @@ read-along (more {t} {u} {xs} w c) s rest e m =
     let z : m + suc (commands w) ≡ suc m + commands w = omega arith in
     rw z (read-along w s (xs ++ rest) front (suc m) ∙ rw (command-read s rest at c d, n))
 
-well-formed-read : {t : State} → WellFormed t → read (render (t .contents)) ≡ accepted (t .contents)
+well-formed-read : {t : ReadState} → WellFormed t → read (render (t .contents)) ≡ accepted (t .contents)
 unfolding read read-commands read-from
 well-formed-read {t} w =
     let s : List ℕ = render (t .contents) in
@@ -117,7 +117,7 @@ bytes-nil i = omega arith
 bytes-2 : (x y : ℕ) → x < 256 → y < 256 → Bytes (x ∷ y ∷ [])
 bytes-2 x y h k = bytes-cons x (y ∷ []) h (bytes-cons y [] k bytes-nil)
 
-command-is-bytes : {t u : State} {xs : List ℕ} → Command t xs u → Few (t .contents) → Bytes xs
+command-is-bytes : {t u : ReadState} {xs : List ℕ} → Command t xs u → Few (t .contents) → Bytes xs
 command-is-bytes (pair a b h) m = bytes-cons 0x43 (a ∷ b ∷ []) (omega arith) (bytes-2 a b (omega (arith, h .kind, h .ordered)) (omega (arith, h .kind)))
 command-is-bytes (run {t} h) m = bytes-2 0x52 (length (t .contents .runs)) (omega arith) (omega (arith, h .runs))
 command-is-bytes (step k high low h) m =
@@ -127,7 +127,7 @@ command-is-bytes (cut {t} r j o h) m =
     (bytes-2 j o (omega (arith, h .inside, sum-take (lengths (t .contents .runs)) r, m .steps)) (omega (arith, h .viewer, m .runs)))
 command-is-bytes (done r h) m = bytes-2 0x48 r (omega arith) (omega (arith, h .declared, m .runs))
 
-well-formed-bytes : {t : State} → WellFormed t → Bytes (command-bytes (t .contents))
+well-formed-bytes : {t : ReadState} → WellFormed t → Bytes (command-bytes (t .contents))
 well-formed-bytes empty = bytes-nil
 well-formed-bytes (more {t} {u} {xs} w c) =
     rw (command-adds c (grouped w)) (bytes-append (command-bytes (t .contents)) xs (well-formed-bytes w) (command-is-bytes c (few w)))

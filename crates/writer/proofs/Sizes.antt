@@ -12,7 +12,7 @@ use lib.Seq.{set-set, set-getD, getD-set-same, getD-set-other}
 use lib.Dec.{ltb, eqb}
 use Rattle.theory.specs.History.{count, suc-if}
 use Rattle.theory.specs.Deck.{Pair, Step, Cut}
-use Rattle.book.specs.Format.{kind-limit, run-limit, step-limit, length-limit, Contents, State, pick, sum, lengths, add-last, above-pair, above-cut, add-pair, add-cut}
+use Rattle.book.specs.Format.{kind-limit, run-limit, step-limit, length-limit, Contents, ReadState, pick, sum, lengths, add-last, above-pair, above-cut, add-pair, add-cut}
 use Rattle.writer.specs.Render.{pair-bytes, step-bytes, run-bytes, cut-bytes, done-bytes, command-bytes, render, Allowed}
 use Rattle.writer.proofs.FormatLaws.{Command, pair, run, step, cut, done, WellFormed, empty, more, PairAllowed, CutAllowed}
 use Rattle.writer.proofs.RenderLaws.{Grouped, grouped}
@@ -79,7 +79,7 @@ length-last [] x = refl
 length-last (r ∷ []) x = refl
 length-last (r ∷ q ∷ qs) x = ap suc (length-last (q ∷ qs) x)
 
-few-pair : (t : State) (x y : ℕ) → Few (t .contents) → PairAllowed t x y → Few (add-pair (t .contents) x y)
+few-pair : (t : ReadState) (x y : ℕ) → Few (t .contents) → PairAllowed t x y → Few (add-pair (t .contents) x y)
 few-pair t x y m h = record {
   pairs = omega (arith, size, low, h .kind, h .ordered);
   next-pair = λ a b u. pick-true (eqb x a) (ltb y b) (ltb x a) (sym (above-pair-snoc (t .contents .pairs) p a b) ∙ u)
@@ -100,7 +100,7 @@ few-pair t x y m h = record {
     low : length (t .contents .pairs) ≤ x * kind-limit + y
     low = m .next-pair x y (h .rises)
 
-few-cut : (t : State) (r j o : ℕ) → Few (t .contents) → CutAllowed t r j o → Few (add-cut (t .contents) r j o)
+few-cut : (t : ReadState) (r j o : ℕ) → Few (t .contents) → CutAllowed t r j o → Few (add-cut (t .contents) r j o)
 few-cut t r j o m h = record {
   pairs = m .pairs;
   next-pair = m .next-pair;
@@ -124,7 +124,7 @@ few-cut t r j o m h = record {
     low : length (t .contents .cuts) ≤ rank (lengths (t .contents .runs)) r j o
     low = m .next-cut r j o (h .rises)
 
-command-few : {t u : State} {xs : List ℕ} → Command t xs u → Grouped t → Few (t .contents) → Few (u .contents)
+command-few : {t u : ReadState} {xs : List ℕ} → Command t xs u → Grouped t → Few (t .contents) → Few (u .contents)
 command-few (pair {t} a b h) g m = few-pair t a b m h
 command-few (run {t} h) g m = record {
   pairs = m .pairs;
@@ -145,7 +145,7 @@ command-few (step {t} k high low h) g m = record {
 command-few (cut {t} r j o h) g m = few-cut t r j o m h
 command-few (done {t} r h) g m = record { pairs = m .pairs; next-pair = m .next-pair; runs = m .runs; steps = m .steps; cuts = m .cuts; next-cut = m .next-cut }
 
-pub few : {t : State} → WellFormed t → Few (t .contents)
+pub few : {t : ReadState} → WellFormed t → Few (t .contents)
 few empty = record { pairs = zero-le; next-pair = λ a b e. zero-le; runs = zero-le; steps = zero-le; cuts = zero-le; next-cut = λ r j o e. zero-le }
 few (more w c) = command-few c (grouped w) (few w)
 

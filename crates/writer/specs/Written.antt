@@ -2,24 +2,13 @@
 -- program").
 use Prim.Native.Nat.{ℕ}
 use mathlib.Core.Path.{_≡_}
-use mathlib.Core.List.{List, [], _∷_, _++_}
+use mathlib.Core.List.{List, _++_}
 use lib.ListN.{length, drop}
 use lib.Dec.{leb}
 use Rattle.book.specs.Format.{Outcome, refused, accepted, pick, read}
-use Rattle.book.specs.Numbers.{number}
 use Rattle.book.specs.declared.Cause.the-variants.{WriterBufferShort}
 use Rattle.writer.specs.declared.Written.{Written}
 use Rattle.writer.specs.declared.Written.the-variants.{Length, Refused}
-
--- document 01's number for each answer, 0 where there is no refusal, and its values: the length, or the place. 13 comes with the number only:
--- its place is 0
-pub record Report : Type 0 where
-  pub refusal : ℕ
-  pub values : List ℕ
-
-abbrev pub report : Written → Report
-report (Length n) = record { refusal = 0; values = n ∷ [] }
-report (Refused cause place) = record { refusal = number cause; values = place ∷ [] }
 
 -- the answer for the bytes s, with the outcome of reading them, and a buffer of n bytes: 1 to 11 come first, then 13
 abbrev pub written-by : Outcome → List ℕ → ℕ → Written

@@ -22,15 +22,6 @@ pub enum Written {
     Refused(Cause, usize),
 }
 
-// How many entries a book's table of cuts has of each run.
-const RUN_CUTS: usize = Book::RUN_STEPS * Book::RUNS;
-
-fn wide(x: u8) -> usize
-    ensures { λ r. ⌜ r ≡ x ⌝ }
-{
-    x as usize
-}
-
 // Bytes at the front of the buffer.
 fn put_two(a: u8, b: u8, out: &mut [u8]) -> usize
     requires { ⌜ 2 ≤ length (now out) ⌝ }
@@ -89,8 +80,8 @@ fn put_cut(mark: u8, index: usize, out: &mut [u8]) -> usize
     } else {
         put_four(
             0x42,
-            (index / RUN_CUTS) as u8,
-            (index % RUN_CUTS / Book::RUNS) as u8,
+            (index / Book::RUN_CUTS) as u8,
+            (index % Book::RUN_CUTS / Book::RUNS) as u8,
             (index % Book::RUNS) as u8,
             out,
         )
@@ -180,7 +171,7 @@ fn put_runs(
     let mut base: usize = 0;
     let mut r: usize = 0;
     while r < runs {
-        let count = wide(lens[r]);
+        let count = book::wide(lens[r]);
         let n = put_run(r as u8, base, count, kinds, positions, &mut out[at..]);
         at += n;
         base += count;

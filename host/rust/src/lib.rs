@@ -1,6 +1,6 @@
 //! Deck books for Rust: safe calls over the proved library (include/deck.h).
 
-use std::os::raw::c_uchar;
+use std::fmt;
 
 #[repr(C)]
 struct RawJudgement {
@@ -34,33 +34,36 @@ struct RawGate {
     withdrawn: [u8; 16],
 }
 
+// DECK_GATE_SIZE of include/deck.h.
+const _: () = assert!(std::mem::size_of::<RawGate>() == 9032);
+
 extern "C" {
-    fn deck_read(book: *const c_uchar, len: usize) -> RawAnswer;
+    fn deck_read(book: *const u8, len: usize) -> RawAnswer;
     fn deck_judge(
-        book: *const c_uchar,
+        book: *const u8,
         len: usize,
-        order: *mut c_uchar,
+        order: *mut u8,
         order_len: usize,
-        cycle: *mut c_uchar,
+        cycle: *mut u8,
         cycle_len: usize,
     ) -> RawJudgement;
-    fn deck_serial(book: *const c_uchar, len: usize) -> RawAnswer;
-    fn deck_atomic(book: *const c_uchar, len: usize) -> RawAnswer;
-    fn deck_relserial(book: *const c_uchar, len: usize) -> RawAnswer;
-    fn deck_conflict(book: *const c_uchar, len: usize) -> RawAnswer;
-    fn deck_check_order(book: *const c_uchar, len: usize, list: *const c_uchar, list_len: usize) -> RawAnswer;
-    fn deck_check_cycle(book: *const c_uchar, len: usize, list: *const c_uchar, list_len: usize) -> RawAnswer;
-    fn deck_arc(book: *const c_uchar, len: usize, from: usize, to: usize) -> RawAnswer;
-    fn deck_write(book: *const c_uchar, len: usize, out: *mut c_uchar, out_len: usize) -> RawAnswer;
-    fn deck_open(book: *const c_uchar, len: usize, gate: *mut RawGate) -> RawAnswer;
+    fn deck_serial(book: *const u8, len: usize) -> RawAnswer;
+    fn deck_atomic(book: *const u8, len: usize) -> RawAnswer;
+    fn deck_relserial(book: *const u8, len: usize) -> RawAnswer;
+    fn deck_conflict(book: *const u8, len: usize) -> RawAnswer;
+    fn deck_check_order(book: *const u8, len: usize, list: *const u8, list_len: usize) -> RawAnswer;
+    fn deck_check_cycle(book: *const u8, len: usize, list: *const u8, list_len: usize) -> RawAnswer;
+    fn deck_arc(book: *const u8, len: usize, from: usize, to: usize) -> RawAnswer;
+    fn deck_write(book: *const u8, len: usize, out: *mut u8, out_len: usize) -> RawAnswer;
+    fn deck_open(book: *const u8, len: usize, gate: *mut RawGate) -> RawAnswer;
     fn deck_step(gate: *mut RawGate, run: u8) -> RawAnswer;
     fn deck_withdraw(gate: *mut RawGate, run: u8) -> RawAnswer;
     fn deck_replay(
-        book: *const c_uchar,
+        book: *const u8,
         len: usize,
-        calls: *const c_uchar,
+        calls: *const u8,
         calls_len: usize,
-        answers: *mut c_uchar,
+        answers: *mut u8,
         answers_len: usize,
     ) -> RawAnswer;
 }
@@ -71,6 +74,14 @@ pub struct Refusal {
     pub number: u64,
     pub place: u64,
 }
+
+impl fmt::Display for Refusal {
+    fn fmt(&self, f: &mut fmt::Formatter) -> fmt::Result {
+        write!(f, "refused {} at {}", self.number, self.place)
+    }
+}
+
+impl std::error::Error for Refusal {}
 
 /// What the judge says of a history.
 #[derive(Clone, Debug, PartialEq, Eq)]
@@ -255,7 +266,10 @@ mod tests {
     #[test]
     fn row_4_is_tangled_with_a_cycle() {
         let b = book("row04");
-        let Ok(Verdict::Tangled(cycle)) = judge(&b) else { panic!("passed") };
+        let cycle = match judge(&b) {
+            Ok(Verdict::Tangled(cycle)) => cycle,
+            other => panic!("{:?}", other),
+        };
         assert_eq!(check_cycle(&b, &cycle), Ok(true));
         assert_eq!(check_cycle(&b, &[1, 3]), Ok(true));
         assert_eq!(check_cycle(&b, &[0, 3]), Ok(false));
@@ -288,6 +302,7 @@ mod tests {
         assert_eq!(judge(&[0x45, 0x45]), Err(Refusal { number: 11, place: 1 }));
         assert_eq!(read(&vec![0; 16385]), Err(Refusal { number: 1, place: 0 }));
         assert_eq!(serial(&[0x52]), Err(Refusal { number: 3, place: 0 }));
+        assert_eq!(read(&[0x45, 0x45]).unwrap_err().to_string(), "refused 11 at 1");
     }
 
     #[test]

@@ -1,5 +1,5 @@
 -- A walk of the MIR: the local reader that `reader_at` makes is lent to `take` for a lifetime within that of its slice, made for the call; once that has
--- ended, `place_of` reads the offset at which `take` left it.
+-- ended, `offset_of` reads the offset at which `take` left it.
 use mathlib.Core.Path.{_≡_, refl, sym, ap, subst}
 use Prim.Native.Nat.{ℕ, _<_, _^_}
 use mathlib.Core.List.{List, [], _∷_}
@@ -46,19 +46,19 @@ use denote.Triple.Spec.{Meets, tripleOf}
 use denote.Triple.Table.{entered, cited}
 use denote.Triple.Walked.{says, needs, Stays, stay-none, stay-none-ref, stay-none-slice, walkOf, goes-none, goes-none-ref, goes-none-slice, Walks, ends-at, walked, walk-meets}
 use denote.Exit.{yes}
-use Rattle.book.specs.Reader.{MayTake, TakenAs}
+use Rattle.book.specs.Reader.{MayTake, CommandReadAs}
 use Rattle.book.specs.declared.Reader.{Reader}
 use Rattle.book.specs.declared.Command.{Command}
-use Rattle.book.specs.declared.Taken.{Taken}
-use Rattle.book.proofs.Passed.{Table, progress-val, command-val, taken-val, Passed, passed-vals, Owned, twice}
+use Rattle.book.specs.declared.CommandRead.{CommandRead}
+use Rattle.book.proofs.Passed.{Table, progress-val, command-val, read-val, Passed, passed-vals, Owned, twice}
 use Rattle.book.proofs.Reader as T
 use Rattle.book.proofs.Reader.Laws as T′
 use Rattle.book.proofs.Progress as P
 use Rattle.book.proofs.Progress.Laws as P′
 use Rattle.book.proofs.Command as N
 use Rattle.book.proofs.Command.Laws as N′
-use Rattle.book.proofs.Taken as O
-use Rattle.book.proofs.Taken.Laws as O′
+use Rattle.book.proofs.CommandRead as O
+use Rattle.book.proofs.CommandRead.Laws as O′
 use Rattle.book.proofs.reader_at as reader-at
 use Rattle.book.proofs.reader_at.Symbol as reader-at-def
 use Rattle.book.proofs.reader_at.Symbol.{name as #book·reader-at}
@@ -67,10 +67,10 @@ use Rattle.book.proofs.take as take
 use Rattle.book.proofs.take.Symbol as take-def
 use Rattle.book.proofs.take.Symbol.{name as #book·take}
 use Rattle.book.proofs.take.Met as take-thm
-use Rattle.book.proofs.place_of as place-of
-use Rattle.book.proofs.place_of.Symbol as place-of-def
-use Rattle.book.proofs.place_of.Symbol.{name as #book·place-of}
-use Rattle.book.proofs.place_of.Met as place-of-thm
+use Rattle.book.proofs.offset_of as offset-of
+use Rattle.book.proofs.offset_of.Symbol as offset-of-def
+use Rattle.book.proofs.offset_of.Symbol.{name as #book·offset-of}
+use Rattle.book.proofs.offset_of.Met as offset-of-thm
 use Rattle.book.proofs.next_command.Key.{name as #book·next-command}
 use Rattle.book.proofs.next_command as next-command
 use Rattle.book.proofs.next_command.Statement as stated
@@ -90,8 +90,8 @@ module _ {M : Type 1} (𝓤 : URA M) (H : Heap 𝓤) (A : Atoms 𝓤) (at-mem : 
   abbrev Take : Contract 𝓤
   Take = tripleOf 𝓤 H A take.signature (take.spec 𝓤 H A at-mem run)
 
-  abbrev PlaceOf : Contract 𝓤
-  PlaceOf = tripleOf 𝓤 H A place-of.signature (place-of.spec 𝓤 H A at-mem run)
+  abbrev OffsetOf : Contract 𝓤
+  OffsetOf = tripleOf 𝓤 H A offset-of.signature (offset-of.spec 𝓤 H A at-mem run)
 
 -- the struct's type, in a signature and in a local
 abbrev α : Lft → NamedLft
@@ -134,9 +134,9 @@ module _ {M : Type 1} (𝓤 : URA M) (H : Heap 𝓤) (A : Atoms 𝓤) (W : Given
 
   -- what is known of a command and of the offset behind it
   abbrev Did : Command → ℕ → Type 0
-  Did c m = TakenAs (a .1 .0 .now) (a .1 .1 .0 .now) (s .now) n (a .0) c m
+  Did c m = CommandReadAs (a .1 .0 .now) (a .1 .1 .0 .now) (s .now) n (a .0) c m
 
-  abbrev answer : Command → ℕ → Taken
+  abbrev answer : Command → ℕ → CommandRead
   answer c m = record { command = c; at = m }
 
   abbrev Post : Val → SProp 𝓤
@@ -149,10 +149,10 @@ module _ {M : Type 1} (𝓤 : URA M) (H : Heap 𝓤) (A : Atoms 𝓤) (W : Given
   abbrev Kept : Fml
   Kept = fsep Slice (fsep (usize .own n (vint w64 n ∷ [])) (Owned κ′ a))
 
-  exits : (c : Command) (m : ℕ) → Did c m → Is O.the-row (answer c m) (taken-val (answer c m) ∷ []) → ent 𝓤 (⋆ 𝓤 H A ((‵ (flft κ q) ⊛ ‵ ftrue) ∷ (‵ (flft κ′ q′) ⊛ ‵ ftrue) ∷ ‵ Kept ∷ [])) (Post (taken-val (answer c m)))
+  exits : (c : Command) (m : ℕ) → Did c m → Is O.the-row (answer c m) (read-val (answer c m) ∷ []) → ent 𝓤 (⋆ 𝓤 H A ((‵ (flft κ q) ⊛ ‵ ftrue) ∷ (‵ (flft κ′ q′) ⊛ ‵ ftrue) ∷ ‵ Kept ∷ [])) (Post (read-val (answer c m)))
   exits c m e is =
       qed W ((‵ (flft κ q) ⊛ ‵ ftrue) ∷ (‵ (flft κ′ q′) ⊛ ‵ ftrue) ∷ ‵ Kept ∷ []) ∵
-      suffices ! _ (ends-at 𝓤 H A next-command.ended stayed (next-command.clauses 𝓤 H A at-mem run) W (((κ, (κ′, tt)), (q, (q′, tt)), tt, x, vals), tt) (taken-val (answer c m)) (answer c m) (tt, (tt, (tt, (tt, (tt, tt))))) (tt, (tt, (tt, (tt, (tt, tt)))))) $ says ! e $
+      suffices ! _ (ends-at 𝓤 H A next-command.ended stayed (next-command.clauses 𝓤 H A at-mem run) W (((κ, (κ′, tt)), (q, (q′, tt)), tt, x, vals), tt) (read-val (answer c m)) (answer c m) (tt, (tt, (tt, (tt, (tt, tt))))) (tt, (tt, (tt, (tt, (tt, tt)))))) $ says ! e $
       split ! $ move ! (1 ∷ []) $ drop ! $ join ! $ frame ! $ frame ! $ owned ! O.the-row (Is O.the-row) (LL.makes O.the-type O′.the-plain 𝓤 H A) (answer c m) _ is $ done !
 
   -- the call of `reader_at`
@@ -207,21 +207,21 @@ module _ {M : Type 1} (𝓤 : URA M) (H : Heap 𝓤) (A : Atoms 𝓤) (W : Given
       use2 W (later (‵ (fdead (ν ∷ κ)) ⊛ ‵ (flft κ (PosShare·right q)))) (within-end 𝓤 H A W ν κ (PosShare·right q)) $ await ! tt $ split ! $ move ! (2 ∷ []) $ split ! $ move ! (0 ∷ 3 ∷ []) $
       use2 W (‵ (flft κ q)) (W .lfts .lft-join κ q) $ nothing ! $ move ! (1 ∷ 0 ∷ []) $ join ! $ at-once ! $ move ! (2 ∷ []) $ done !
 
-  -- the call of `place_of`, at the reader w
-  abbrev to-place : Reader → PlaceOf 𝓤 H A at-mem run .Ghost
+  -- the call of `offset_of`, at the reader w
+  abbrev to-place : Reader → OffsetOf 𝓤 H A at-mem run .Ghost
   to-place w = (((κ, tt), (q, tt), tt, (w, tt), (T′.lowered w ∷ [], tt)), tt)
 
-  goes-place : (w : Reader) → ent 𝓤 (⋆ 𝓤 H A ((‵ (flft κ q) ⊛ ‵ ftrue) ∷ ‵ (B κ .own w (T′.lowered w ∷ [])) ∷ [])) (PlaceOf 𝓤 H A at-mem run .pre (to-place w))
+  goes-place : (w : Reader) → ent 𝓤 (⋆ 𝓤 H A ((‵ (flft κ q) ⊛ ‵ ftrue) ∷ ‵ (B κ .own w (T′.lowered w ∷ [])) ∷ [])) (OffsetOf 𝓤 H A at-mem run .pre (to-place w))
   goes-place w = qed W ((‵ (flft κ q) ⊛ ‵ ftrue) ∷ ‵ (B κ .own w (T′.lowered w ∷ [])) ∷ []) ∵ nothing ! $ move ! (2 ∷ 0 ∷ []) $ fjoin ! $ move ! (1 ∷ 0 ∷ []) $ join ! $ frame ! $ done !
 
-  place-said : (w : Reader) (m : ℕ) → ent 𝓤 (ensured 𝓤 H A place-of.ended (place-of.clauses 𝓤 H A at-mem run) (κ, tt) (w, tt) tt m) (fact 𝓤 (m ≡ w .at))
-  place-said w m = exE 𝓤 _ (λ ws. snd∗ 𝓤 (sem 𝓤 H A (lasts place-of.ended (κ, tt) (w, tt) ws)) (fact 𝓤 (m ≡ w .at)))
+  place-said : (w : Reader) (m : ℕ) → ent 𝓤 (ensured 𝓤 H A offset-of.ended (offset-of.clauses 𝓤 H A at-mem run) (κ, tt) (w, tt) tt m) (fact 𝓤 (m ≡ w .at))
+  place-said w m = exE 𝓤 _ (λ ws. snd∗ 𝓤 (sem 𝓤 H A (lasts offset-of.ended (κ, tt) (w, tt) ws)) (fact 𝓤 (m ≡ w .at)))
 
   -- a reader's value has the struct's type in a local
   abbrev typed : (r : Reader) (u : Val) → Is (B κ) r (u ∷ []) → Holds (hasTy (T′.mir erased) u) × WT u
   typed r u is = LL.lawful (T.the-type (αᵉ κ)) (T′.the-laws (αᵉ κ)) 𝓤 H A W .typed r (u ∷ []) is .0
 
-  module _ (C : Calls 𝓤 H) (Λ : Loops 𝓤 H) (fm : FmC 𝓤 H (W .laws) C) (known-reader : Triple 𝓤 (C #book·reader-at) (ReaderAt 𝓤 H A at-mem run)) (known-take : Triple 𝓤 (C #book·take) (Take 𝓤 H A at-mem run)) (known-place : Triple 𝓤 (C #book·place-of) (PlaceOf 𝓤 H A at-mem run)) where
+  module _ (C : Calls 𝓤 H) (Λ : Loops 𝓤 H) (fm : FmC 𝓤 H (W .laws) C) (known-reader : Triple 𝓤 (C #book·reader-at) (ReaderAt 𝓤 H A at-mem run)) (known-take : Triple 𝓤 (C #book·take) (Take 𝓤 H A at-mem run)) (known-place : Triple 𝓤 (C #book·offset-of) (OffsetOf 𝓤 H A at-mem run)) where
     walk : MayTake (s .now) n (a .0)
         → ent 𝓤 (onEntry 𝓤 H A next-command.signature (κ, (κ′, tt)) (q, (q′, tt)) x vals) (WpFn 𝓤 H C Λ code.function (v ∷ vint w64 n ∷ progress-val (a .0) ∷ vptr (a .1 .0 .ptr .0) (a .1 .0 .ptr .1) ∷ vptr (a .1 .1 .0 .ptr .0) (a .1 .1 .0 .ptr .1) ∷ []) Post)
     walk stands =
@@ -267,10 +267,10 @@ module _ {M : Type 1} (𝓤 : URA M) (H : Heap 𝓤) (A : Atoms 𝓤) (W : Given
         peeks ! (B κ) (Is (B κ)) (shows 𝓤 H A (B κ)) (ws .0) (T′.lowered (ws .0) ∷ []) (λ w-is.
         -- [what the reader owns; _6; the tokens; …; the kept; _10; …; _9; …; _8; …; _7; …; … of _6; _5; …; _4; …; _3; …; _2; …; _1; …; room for _0; …]
         forget ! 7 refl $ assigns ! (of-opd ! (load ! (from ! (stop !)) (look ! 1 refl))) (from ! (stop !)) (init ! 7 refl (typed (ws .0) (T′.lowered (ws .0)) w-is)) $
-        -- `place_of`
-        move ! (2 ∷ []) $ split ! $ move ! (0 ∷ 2 ∷ []) $ use2 W (raw (PlaceOf 𝓤 H A at-mem run .pre (to-place (ws .0)))) (goes-place (ws .0)) $
-        calls-at ! fm (PlaceOf 𝓤 H A at-mem run) known-place (to-place (ws .0)) (and-then ! (load ! (from ! (stop !)) (look ! 7 refl)) (no-more !)) (λ z.
-        use1 W (later (some (λ (m : ℕ). ((‵ (flft κ q) ⊛ ‵ ftrue) ⊛ ‵ (usize .own m (z ∷ []))) ⊛ raw (ensured 𝓤 H A place-of.ended (place-of.clauses 𝓤 H A at-mem run) (κ, tt) (ws .0, tt) tt m)))) (id⊢ 𝓤 _) $ await ! tt $ pick ! (λ m.
+        -- `offset_of`
+        move ! (2 ∷ []) $ split ! $ move ! (0 ∷ 2 ∷ []) $ use2 W (raw (OffsetOf 𝓤 H A at-mem run .pre (to-place (ws .0)))) (goes-place (ws .0)) $
+        calls-at ! fm (OffsetOf 𝓤 H A at-mem run) known-place (to-place (ws .0)) (and-then ! (load ! (from ! (stop !)) (look ! 7 refl)) (no-more !)) (λ z.
+        use1 W (later (some (λ (m : ℕ). ((‵ (flft κ q) ⊛ ‵ ftrue) ⊛ ‵ (usize .own m (z ∷ []))) ⊛ raw (ensured 𝓤 H A offset-of.ended (offset-of.clauses 𝓤 H A at-mem run) (κ, tt) (ws .0, tt) tt m)))) (id⊢ 𝓤 _) $ await ! tt $ pick ! (λ m.
         split ! $ move ! (1 ∷ []) $ use1 W (raw (fact 𝓤 (m ≡ ws .0 .at))) (place-said (ws .0) m) $ heard ! (m ≡ ws .0 .at) (λ e″. split ! $ move ! (1 ∷ []) $
         -- [the offset; κ's token; κ′'s token; _6; …; the kept; _10; …; _9; …; _8; …; _7; …; … of _6; _5; …; _4; …; _3; …; _2; …; _1; …; room for _0; …]
         peeks ! usize (Is usize) (shows 𝓤 H A usize) m (z ∷ []) (λ m-is.
@@ -283,7 +283,7 @@ module _ {M : Type 1} (𝓤 : URA M) (H : Heap 𝓤) (A : Atoms 𝓤) (W : Given
         keep ! (1 ∷ 2 ∷ 4 ∷ []) $ by ! (exits c m (subst (Did c) (sym e″) (e′ .1)) (LL.owes O.the-type O′.the-laws (answer c m) (c-is, ((refl, m-is .1), tt)))))))))))))))))))))))))))))))))
 
 module _ {M : Type 1} (𝓤 : URA M) (H : Heap 𝓤) (A : Atoms 𝓤) (W : Given 𝓤 H A) (at-mem : Memory → SProp 𝓤) (run : Routine → Fun 𝓤) where
-  walks : (C : Calls 𝓤 H) (Λ : Loops 𝓤 H) → FmC 𝓤 H (W .laws) C → Triple 𝓤 (C #book·reader-at) (ReaderAt 𝓤 H A at-mem run) → Triple 𝓤 (C #book·take) (Take 𝓤 H A at-mem run) → Triple 𝓤 (C #book·place-of) (PlaceOf 𝓤 H A at-mem run)
+  walks : (C : Calls 𝓤 H) (Λ : Loops 𝓤 H) → FmC 𝓤 H (W .laws) C → Triple 𝓤 (C #book·reader-at) (ReaderAt 𝓤 H A at-mem run) → Triple 𝓤 (C #book·take) (Take 𝓤 H A at-mem run) → Triple 𝓤 (C #book·offset-of) (OffsetOf 𝓤 H A at-mem run)
       → Walks 𝓤 H A next-command.ended stayed (WpFn 𝓤 H C Λ code.function) (next-command.clauses 𝓤 H A at-mem run)
   walks C Λ fm known-reader known-take known-place = walked 𝓤 H A next-command.ended stayed (next-command.clauses 𝓤 H A at-mem run) (WpFn 𝓤 H C Λ code.function)
       (λ κs. (slice-vals, (uint-vals w64, (LL.vals P.the-type P′.the-laws, (ptr-vals, (ptr-vals, tt))))))
@@ -291,7 +291,7 @@ module _ {M : Type 1} (𝓤 : URA M) (H : Heap 𝓤) (A : Atoms 𝓤) (W : Given
       (λ κs qs bounds a g are. needs 𝓤 _ _ (walk 𝓤 H A W at-mem run (κs .0) (κs .1 .0) (qs .0) (qs .1 .0) (a .0) (a .1 .0) (a .1 .1) (are .0) (are .1 .0 .1) (are .1 .1 .0) C Λ fm known-reader known-take known-place))
 
 meets : {M : Type 1} (𝓤 : URA M) (H : Heap 𝓤) (A : Atoms 𝓤) → Given 𝓤 H A → (at-mem : Memory → SProp 𝓤) (run : Routine → Fun 𝓤) (𝓣 : Tables 𝓤 H)
-    → Triple 𝓤 (𝓣 .C #book·reader-at) (ReaderAt 𝓤 H A at-mem run) → Triple 𝓤 (𝓣 .C #book·take) (Take 𝓤 H A at-mem run) → Triple 𝓤 (𝓣 .C #book·place-of) (PlaceOf 𝓤 H A at-mem run)
+    → Triple 𝓤 (𝓣 .C #book·reader-at) (ReaderAt 𝓤 H A at-mem run) → Triple 𝓤 (𝓣 .C #book·take) (Take 𝓤 H A at-mem run) → Triple 𝓤 (𝓣 .C #book·offset-of) (OffsetOf 𝓤 H A at-mem run)
     → Meets 𝓤 H A next-command.signature (WpFn 𝓤 H (𝓣 .C) (𝓣 .Λ) code.function) (next-command.spec 𝓤 H A at-mem run)
 meets 𝓤 H A W at-mem run 𝓣 known-reader known-take known-place =
     walk-meets 𝓤 H A next-command.ended stayed W (
@@ -308,4 +308,4 @@ next-command-spec 𝓤 H 𝓜 𝓖 𝓡 =
     (meets 𝓤 H (𝓖 .A) (givenOf 𝓤 H 𝓜 𝓖) (𝓜 .mem) (𝓡 .run) (tablesOf 𝓤 H 𝓜 (tables 𝓤 H 𝓜 𝓡 code.env))
     (cited 𝓤 H (ReaderAt 𝓤 H (𝓖 .A) (𝓜 .mem) (𝓡 .run)) 𝓜 𝓡 code.env #book·reader-at reader-at-def.routine code.calls-book·reader-at (reader-at-thm.met 𝓤 H 𝓜 𝓖 𝓡))
     (cited 𝓤 H (Take 𝓤 H (𝓖 .A) (𝓜 .mem) (𝓡 .run)) 𝓜 𝓡 code.env #book·take take-def.routine code.calls-book·take (take-thm.met 𝓤 H 𝓜 𝓖 𝓡))
-    (cited 𝓤 H (PlaceOf 𝓤 H (𝓖 .A) (𝓜 .mem) (𝓡 .run)) 𝓜 𝓡 code.env #book·place-of place-of-def.routine code.calls-book·place-of (place-of-thm.met 𝓤 H 𝓜 𝓖 𝓡)))
+    (cited 𝓤 H (OffsetOf 𝓤 H (𝓖 .A) (𝓜 .mem) (𝓡 .run)) 𝓜 𝓡 code.env #book·offset-of offset-of-def.routine code.calls-book·offset-of (offset-of-thm.met 𝓤 H 𝓜 𝓖 𝓡)))

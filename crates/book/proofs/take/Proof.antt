@@ -1,4 +1,4 @@
--- A walk of the MIR: the borrow of the reader is opened, `taken_at` is called with copies of what the reader and the tables own, the offset that it
+-- A walk of the MIR: the borrow of the reader is opened, `command_read_at` is called with copies of what the reader and the tables own, the offset that it
 -- answered is stored beside the slice, and the borrow is closed at the reader with that offset.
 use mathlib.Core.Path.{_≡_, refl, ap}
 use Prim.Native.Nat.{ℕ, _<_, _^_}
@@ -45,9 +45,9 @@ use denote.Triple.Spec.{Meets, tripleOf}
 use denote.Triple.Table.{entered, cited}
 use denote.Triple.Walked.{says, needs, Stays, stay-ref, stay-none, stay-none-ref, walkOf, goes-none, goes-none-ref, goes-ref, Walks, ends-at, walked, walk-meets}
 use denote.Exit.{yes}
-use Rattle.book.specs.Reader.{MayTake, TakenAs}
+use Rattle.book.specs.Reader.{MayTake, CommandReadAs}
 use Rattle.book.specs.declared.Reader.{Reader}
-use Rattle.book.specs.declared.Taken.{Taken}
+use Rattle.book.specs.declared.CommandRead.{CommandRead}
 use Rattle.book.proofs.Passed.{Table, progress-val, command-val, command-is, offset-fits, Passed, passed-vals, Owned, twice}
 use Rattle.book.proofs.Reader as T
 use Rattle.book.proofs.Reader.Laws as T′
@@ -55,12 +55,12 @@ use Rattle.book.proofs.Progress as P
 use Rattle.book.proofs.Progress.Laws as P′
 use Rattle.book.proofs.Command as N
 use Rattle.book.proofs.Command.Laws as N′
-use Rattle.book.proofs.Taken as O
-use Rattle.book.proofs.Taken.Laws as O′
-use Rattle.book.proofs.taken_at as taken-at
-use Rattle.book.proofs.taken_at.Symbol as taken-at-def
-use Rattle.book.proofs.taken_at.Symbol.{name as #book·taken-at}
-use Rattle.book.proofs.taken_at.Met as taken-at-thm
+use Rattle.book.proofs.CommandRead as O
+use Rattle.book.proofs.CommandRead.Laws as O′
+use Rattle.book.proofs.command_read_at as command-read-at
+use Rattle.book.proofs.command_read_at.Symbol as command-read-at-def
+use Rattle.book.proofs.command_read_at.Symbol.{name as #book·command-read-at}
+use Rattle.book.proofs.command_read_at.Met as command-read-at-thm
 use Rattle.book.proofs.take.Key.{name as #book·take}
 use Rattle.book.proofs.take as take
 use Rattle.book.proofs.take.Statement as stated
@@ -74,8 +74,8 @@ abbrev stayed : Stays (take.ended .signature .params) (take.ended .kept)
 stayed = (stay-ref (0 ∷ []) tt behind, (stay-none (λ _. P.the-row) yes, (stay-none-ref (2 ∷ []) tt (plain (λ _. Table)) yes, (stay-none-ref (2 ∷ []) tt (plain (λ _. Table)) yes, tt))))
 
 -- the contract that the proof cites
-abbrev TakenAt : {M : Type 1} (𝓤 : URA M) (H : Heap 𝓤) (A : Atoms 𝓤) (at-mem : Memory → SProp 𝓤) (run : Routine → Fun 𝓤) → Contract 𝓤
-TakenAt 𝓤 H A at-mem run = tripleOf 𝓤 H A taken-at.signature (taken-at.spec 𝓤 H A at-mem run)
+abbrev CommandReadAt : {M : Type 1} (𝓤 : URA M) (H : Heap 𝓤) (A : Atoms 𝓤) (at-mem : Memory → SProp 𝓤) (run : Routine → Fun 𝓤) → Contract 𝓤
+CommandReadAt 𝓤 H A at-mem run = tripleOf 𝓤 H A command-read-at.signature (command-read-at.spec 𝓤 H A at-mem run)
 
 module _ {M : Type 1} (𝓤 : URA M) (H : Heap 𝓤) (A : Atoms 𝓤) (W : Given 𝓤 H A) (at-mem : Memory → SProp 𝓤) (run : Routine → Fun 𝓤) (κ κ′ κ″ : Lft) (q q′ q″ : Share) (bounds : AllOutlive 3 (take.signature .outlives) (κ, (κ′, (κ″, tt)))) (b o : ℕ) (γ : GName) (h : Reader) (a : Passed)
     (p-is : Is P.the-row (a .0) (progress-val (a .0) ∷ [])) where
@@ -109,28 +109,28 @@ module _ {M : Type 1} (𝓤 : URA M) (H : Heap 𝓤) (A : Atoms 𝓤) (W : Given
   Own n = B .own (moved n) (T′.lowered (moved n) ∷ [])
 
   -- what is known of what was taken
-  abbrev Did : Taken → Type 0
-  Did t = TakenAs (a .1 .0 .now) (a .1 .1 .0 .now) (h .src .now) (h .at) (a .0) (t .command) (t .at)
+  abbrev Did : CommandRead → Type 0
+  Did t = CommandReadAs (a .1 .0 .now) (a .1 .1 .0 .now) (h .src .now) (h .at) (a .0) (t .command) (t .at)
 
   abbrev Post : Val → SProp 𝓤
   Post = walkOf 𝓤 H A take.ended stayed (take.clauses 𝓤 H A at-mem run) .post (((κ, (κ′, (κ″, tt))), (q, (q′, (q″, tt))), bounds, x, vals), tt)
 
-  -- the call of `taken_at`: what it is passed, and what it asks
+  -- the call of `command_read_at`: what it is passed, and what it asks
   abbrev slice-val : Val
   slice-val = sliceVal (h .src .ptr) (length (h .src .now))
 
-  abbrev to : TakenAt 𝓤 H A at-mem run .Ghost
+  abbrev to : CommandReadAt 𝓤 H A at-mem run .Ghost
   to = (((κ′, (κ″, tt)), (q′, (q″, tt)), tt, (h .src, (h .at, a)), (slice-val ∷ [], (vint w64 (h .at) ∷ [], passed-vals a))), tt)
 
   asked : MayTake (h .src .now) (h .at) (a .0)
-      → ent 𝓤 (⋆ 𝓤 H A ((‵ (flft κ′ q′) ⊛ ‵ (flft κ″ q″) ⊛ ‵ ftrue) ∷ ‵ (fsep (ShrSlice (named 0) κ′ u8 .own (h .src) (slice-val ∷ [])) (fsep (usize .own (h .at) (vint w64 (h .at) ∷ [])) (Owned κ″ a))) ∷ [])) (TakenAt 𝓤 H A at-mem run .pre to)
+      → ent 𝓤 (⋆ 𝓤 H A ((‵ (flft κ′ q′) ⊛ ‵ (flft κ″ q″) ⊛ ‵ ftrue) ∷ ‵ (fsep (ShrSlice (named 0) κ′ u8 .own (h .src) (slice-val ∷ [])) (fsep (usize .own (h .at) (vint w64 (h .at) ∷ [])) (Owned κ″ a))) ∷ [])) (CommandReadAt 𝓤 H A at-mem run .pre to)
   asked stands =
       qed W ((‵ (flft κ′ q′) ⊛ ‵ (flft κ″ q″) ⊛ ‵ ftrue) ∷ ‵ (fsep (ShrSlice (named 0) κ′ u8 .own (h .src) (slice-val ∷ [])) (fsep (usize .own (h .at) (vint w64 (h .at) ∷ [])) (Owned κ″ a))) ∷ []) ∵
       says ! stands $ frame ! $ done !
 
   -- what the reader, the progress and the tables own gives what the callee asks, and is kept
   apart : MayTake (h .src .now) (h .at) (a .0) → h .at < 2 ^ 64 → ent 𝓤 (⋆ 𝓤 H A (‵ (Own (h .at)) ∷ (‵ (flft κ′ q′) ⊛ ‵ (flft κ″ q″) ⊛ ‵ ftrue) ∷ ‵ (Owned κ″ a) ∷ []))
-      (sep 𝓤 (TakenAt 𝓤 H A at-mem run .pre to) (sep 𝓤 (sem 𝓤 H A (Own (h .at))) (sem 𝓤 H A (Owned κ″ a))))
+      (sep 𝓤 (CommandReadAt 𝓤 H A at-mem run .pre to) (sep 𝓤 (sem 𝓤 H A (Own (h .at))) (sem 𝓤 H A (Owned κ″ a))))
   apart stands fits =
       qed W (‵ (Own (h .at)) ∷ (‵ (flft κ′ q′) ⊛ ‵ (flft κ″ q″) ⊛ ‵ ftrue) ∷ ‵ (Owned κ″ a) ∷ []) ∵
       use1 W (‵ (Own (h .at)) ⊛ ‵ (Own (h .at))) (LL.copy D (T′.the-copy α) 𝓤 H A W .twice h (T′.lowered h ∷ [])) $ split ! $
@@ -139,17 +139,17 @@ module _ {M : Type 1} (𝓤 : URA M) (H : Heap 𝓤) (A : Atoms 𝓤) (W : Given
       -- [what src owns; what the reader owns; the tokens; what is passed on]
       move ! (3 ∷ []) $ use1 W (‵ (Owned κ″ a) ⊛ ‵ (Owned κ″ a)) (twice 𝓤 H A W κ″ a) $ split ! $
       owned ! usize (Is usize) (uint-makes 𝓤 H A W w64) (h .at) _ (refl, fits) $ fjoin ! $ move ! (2 ∷ 0 ∷ []) $ fjoin ! $
-      move ! (3 ∷ 0 ∷ []) $ use2 W (raw (TakenAt 𝓤 H A at-mem run .pre to)) (asked stands) $ frame ! $ move ! (1 ∷ 0 ∷ []) $ done !)
+      move ! (3 ∷ 0 ∷ []) $ use2 W (raw (CommandReadAt 𝓤 H A at-mem run .pre to)) (asked stands) $ frame ! $ move ! (1 ∷ 0 ∷ []) $ done !)
 
   -- of the callee's `ensured`, the clause alone: it has no `&mut`
-  said : (t : Taken) → ent 𝓤 (ensured 𝓤 H A taken-at.ended (taken-at.clauses 𝓤 H A at-mem run) (κ′, (κ″, tt)) (h .src, (h .at, a)) tt t) (fact 𝓤 (Did t))
-  said t = exE 𝓤 _ (λ ws. snd∗ 𝓤 (sem 𝓤 H A (lasts taken-at.ended (κ′, (κ″, tt)) (h .src, (h .at, a)) ws)) (fact 𝓤 (Did t)))
+  said : (t : CommandRead) → ent 𝓤 (ensured 𝓤 H A command-read-at.ended (command-read-at.clauses 𝓤 H A at-mem run) (κ′, (κ″, tt)) (h .src, (h .at, a)) tt t) (fact 𝓤 (Did t))
+  said t = exE 𝓤 _ (λ ws. snd∗ 𝓤 (sem 𝓤 H A (lasts command-read-at.ended (κ′, (κ″, tt)) (h .src, (h .at, a)) ws)) (fact 𝓤 (Did t)))
 
   -- what src owns is kept, and the facts of the offset are made anew
   again : (n : ℕ) → n < 2 ^ 64 → ent 𝓤 (sem 𝓤 H A (Own (h .at))) (sem 𝓤 H A (Own n))
   again n fits = qed W (‵ (Own (h .at)) ∷ []) ∵ owned ! usize (Is usize) (uint-makes 𝓤 H A W w64) n _ (refl, fits) $ move ! (1 ∷ 0 ∷ []) $ by ! (own-put 𝓤 H A W D L 1 vd n (T′.lowered h))
 
-  exits : (t : Taken) → Did t → Is N.the-row (t .command) (command-val (t .command) ∷ [])
+  exits : (t : CommandRead) → Did t → Is N.the-row (t .command) (command-val (t .command) ∷ [])
       → ent 𝓤 (⋆ 𝓤 H A (‵ (fobs γ (B .coded .code (moved (t .at)))) ∷ ‵ (fbor κ (Body (mem B) b o γ)) ∷ ‵ (flft κ q) ∷ (‵ (flft κ′ q′) ⊛ ‵ (flft κ″ q″) ⊛ ‵ ftrue) ∷ ‵ (Owned κ″ a) ∷ [])) (Post (command-val (t .command)))
   exits t e is =
       qed W (‵ (fobs γ (B .coded .code (moved (t .at)))) ∷ ‵ (fbor κ (Body (mem B) b o γ)) ∷ ‵ (flft κ q) ∷ (‵ (flft κ′ q′) ⊛ ‵ (flft κ″ q″) ⊛ ‵ ftrue) ∷ ‵ (Owned κ″ a) ∷ []) ∵
@@ -157,7 +157,7 @@ module _ {M : Type 1} (𝓤 : URA M) (H : Heap 𝓤) (A : Atoms 𝓤) (W : Given
       move ! (2 ∷ 3 ∷ []) $ join ! $ frame ! $ feqI ! (List Val) (vptr b o ∷ []) (vptr b o ∷ []) refl $ fjoin3 ! $ fjoin ! $
       owned ! N.the-row (Is N.the-row) (EL.makes N.the-type N′.the-plain 𝓤 H A) (t .command) _ is $ move ! (1 ∷ 0 ∷ []) $ done !
 
-  module _ (C : Calls 𝓤 H) (Λ : Loops 𝓤 H) (fm : FmC 𝓤 H (W .laws) C) (known : Triple 𝓤 (C #book·taken-at) (TakenAt 𝓤 H A at-mem run)) where
+  module _ (C : Calls 𝓤 H) (Λ : Loops 𝓤 H) (fm : FmC 𝓤 H (W .laws) C) (known : Triple 𝓤 (C #book·command-read-at) (CommandReadAt 𝓤 H A at-mem run)) where
     walk : MayTake (h .src .now) (h .at) (a .0)
         → ent 𝓤 (onEntry 𝓤 H A take.signature (κ, (κ′, (κ″, tt))) (q, (q′, (q″, tt))) x vals) (WpFn 𝓤 H C Λ code.function (vptr b o ∷ progress-val (a .0) ∷ vptr (a .1 .0 .ptr .0) (a .1 .0 .ptr .1) ∷ vptr (a .1 .1 .0 .ptr .0) (a .1 .1 .0 .ptr .1) ∷ []) Post)
     walk stands =
@@ -173,11 +173,11 @@ module _ {M : Type 1} (𝓤 : URA M) (H : Heap 𝓤) (A : Atoms 𝓤) (W : Given
         -- [the reader's cell; what it owns; the open borrow; obs; auth; the other tokens; what is passed on; _7; …; _6; …; _5; …; _4; …; _3; …; _2; …; _1; …; room for _0; …]
         assigns ! (of-opd ! (load ! (from ! (hop ! (look ! 19 refl) (fld ! refl (stop !)))) (look-in ! 0 (sub ! 0 refl (whole !))))) (from ! (stop !)) (init ! 9 refl (tt, LL.lawful D L 𝓤 H A W .typed h _ was .0 .1 .0)) $
         assigns ! (of-opd ! (load ! (from ! (hop ! (look ! 19 refl) (fld ! refl (stop !)))) (look-in ! 0 (sub ! 1 refl (whole !))))) (from ! (stop !)) (init ! 7 refl (tt, record { fits = was .1 .1 .1 .0 .1 })) $
-        move ! (1 ∷ 5 ∷ 6 ∷ []) $ use3 W (raw (TakenAt 𝓤 H A at-mem run .pre to) ⊛ ‵ (Own (h .at)) ⊛ ‵ (Owned κ″ a)) (apart stands (was .1 .1 .1 .0 .1)) $ split ! $ move ! (1 ∷ []) $ split ! $ move ! (2 ∷ []) $
+        move ! (1 ∷ 5 ∷ 6 ∷ []) $ use3 W (raw (CommandReadAt 𝓤 H A at-mem run .pre to) ⊛ ‵ (Own (h .at)) ⊛ ‵ (Owned κ″ a)) (apart stands (was .1 .1 .1 .0 .1)) $ split ! $ move ! (1 ∷ []) $ split ! $ move ! (2 ∷ []) $
         -- [the callee's pre; what the reader owns; what is passed on; the reader's cell; the open borrow; obs; auth; _7; …]
-        calls-at ! fm (TakenAt 𝓤 H A at-mem run) known to
+        calls-at ! fm (CommandReadAt 𝓤 H A at-mem run) known to
         (and-then ! (load ! (from ! (stop !)) (look ! 9 refl)) (and-then ! (load ! (from ! (stop !)) (look ! 7 refl)) (and-then ! (load ! (from ! (stop !)) (look ! 17 refl)) (and-then ! (load ! (from ! (stop !)) (look ! 15 refl)) (and-then ! (load ! (from ! (stop !)) (look ! 13 refl)) (no-more !)))))) (λ v.
-        use1 W (later (some (λ (t : Taken). ((‵ (flft κ′ q′) ⊛ ‵ (flft κ″ q″) ⊛ ‵ ftrue) ⊛ ‵ (O.the-row .own t (v ∷ []))) ⊛ raw (ensured 𝓤 H A taken-at.ended (taken-at.clauses 𝓤 H A at-mem run) (κ′, (κ″, tt)) (h .src, (h .at, a)) tt t)))) (id⊢ 𝓤 _) $ await ! tt $ pick ! (λ t.
+        use1 W (later (some (λ (t : CommandRead). ((‵ (flft κ′ q′) ⊛ ‵ (flft κ″ q″) ⊛ ‵ ftrue) ⊛ ‵ (O.the-row .own t (v ∷ []))) ⊛ raw (ensured 𝓤 H A command-read-at.ended (command-read-at.clauses 𝓤 H A at-mem run) (κ′, (κ″, tt)) (h .src, (h .at, a)) tt t)))) (id⊢ 𝓤 _) $ await ! tt $ pick ! (λ t.
         split ! $ move ! (1 ∷ []) $ use1 W (raw (fact 𝓤 (Did t))) (said t) $ heard ! (Did t) (λ e. split ! $ move ! (1 ∷ []) $
         peeks ! O.the-row (Is O.the-row) (shows 𝓤 H A O.the-row) t (v ∷ []) (λ is.
         -- [what was taken; the other tokens; what the reader owns; what is passed on; the reader's cell; the open borrow; obs; auth; _7; …; _6; …; _5; …; _4; …; _3; …; _2; …; _1; …; room for _0; …]
@@ -194,13 +194,13 @@ module _ {M : Type 1} (𝓤 : URA M) (H : Heap 𝓤) (A : Atoms 𝓤) (W : Given
         keep ! (0 ∷ 1 ∷ 2 ∷ 4 ∷ 5 ∷ []) $ by ! (exits t e (command-is t v is))))))))))))))))
 
 module _ {M : Type 1} (𝓤 : URA M) (H : Heap 𝓤) (A : Atoms 𝓤) (W : Given 𝓤 H A) (at-mem : Memory → SProp 𝓤) (run : Routine → Fun 𝓤) where
-  walks : (C : Calls 𝓤 H) (Λ : Loops 𝓤 H) → FmC 𝓤 H (W .laws) C → Triple 𝓤 (C #book·taken-at) (TakenAt 𝓤 H A at-mem run) → Walks 𝓤 H A take.ended stayed (WpFn 𝓤 H C Λ code.function) (take.clauses 𝓤 H A at-mem run)
+  walks : (C : Calls 𝓤 H) (Λ : Loops 𝓤 H) → FmC 𝓤 H (W .laws) C → Triple 𝓤 (C #book·command-read-at) (CommandReadAt 𝓤 H A at-mem run) → Walks 𝓤 H A take.ended stayed (WpFn 𝓤 H C Λ code.function) (take.clauses 𝓤 H A at-mem run)
   walks C Λ fm known = walked 𝓤 H A take.ended stayed (take.clauses 𝓤 H A at-mem run) (WpFn 𝓤 H C Λ code.function)
       (λ κs. (ptr-vals, (LL.vals P.the-type P′.the-laws, (ptr-vals, (ptr-vals, tt)))))
       (λ κs. (mut-tells (named 0) (κs .0) (T.the-row (namedLft 3 1 tt κs)), (LL.tells P.the-type P′.the-laws, (shr-tells (named 2) (κs .1 .1 .0) Table, (shr-tells (named 2) (κs .1 .1 .0) Table, tt)))))
       (λ κs qs bounds a g are. needs 𝓤 _ _ (walk 𝓤 H A W at-mem run (κs .0) (κs .1 .0) (κs .1 .1 .0) (qs .0) (qs .1 .0) (qs .1 .1 .0) bounds (a .0 .ptr .0) (a .0 .ptr .1) (a .0 .name) (a .0 .now) (a .1) (are .1 .0) C Λ fm known))
 
-meets : {M : Type 1} (𝓤 : URA M) (H : Heap 𝓤) (A : Atoms 𝓤) → Given 𝓤 H A → (at-mem : Memory → SProp 𝓤) (run : Routine → Fun 𝓤) (𝓣 : Tables 𝓤 H) → Triple 𝓤 (𝓣 .C #book·taken-at) (TakenAt 𝓤 H A at-mem run)
+meets : {M : Type 1} (𝓤 : URA M) (H : Heap 𝓤) (A : Atoms 𝓤) → Given 𝓤 H A → (at-mem : Memory → SProp 𝓤) (run : Routine → Fun 𝓤) (𝓣 : Tables 𝓤 H) → Triple 𝓤 (𝓣 .C #book·command-read-at) (CommandReadAt 𝓤 H A at-mem run)
     → Meets 𝓤 H A take.signature (WpFn 𝓤 H (𝓣 .C) (𝓣 .Λ) code.function) (take.spec 𝓤 H A at-mem run)
 meets 𝓤 H A W at-mem run 𝓣 known =
     walk-meets 𝓤 H A take.ended stayed W
@@ -213,4 +213,4 @@ take-spec 𝓤 H 𝓜 𝓖 𝓡 =
     entered 𝓤 H (tripleOf 𝓤 H (𝓖 .A) take.signature (take.spec 𝓤 H (𝓖 .A) (𝓜 .mem) (𝓡 .run)))
     (tables 𝓤 H 𝓜 𝓡 code.env .C) (tables 𝓤 H 𝓜 𝓡 code.env .Λ) #book·take code.function (code.unfolded 𝓤 H 𝓜 𝓡)
     (meets 𝓤 H (𝓖 .A) (givenOf 𝓤 H 𝓜 𝓖) (𝓜 .mem) (𝓡 .run) (tablesOf 𝓤 H 𝓜 (tables 𝓤 H 𝓜 𝓡 code.env))
-    (cited 𝓤 H (TakenAt 𝓤 H (𝓖 .A) (𝓜 .mem) (𝓡 .run)) 𝓜 𝓡 code.env #book·taken-at taken-at-def.routine code.calls-book·taken-at (taken-at-thm.met 𝓤 H 𝓜 𝓖 𝓡)))
+    (cited 𝓤 H (CommandReadAt 𝓤 H (𝓖 .A) (𝓜 .mem) (𝓡 .run)) 𝓜 𝓡 code.env #book·command-read-at command-read-at-def.routine code.calls-book·command-read-at (command-read-at-thm.met 𝓤 H 𝓜 𝓖 𝓡)))

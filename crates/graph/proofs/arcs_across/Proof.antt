@@ -20,7 +20,13 @@ join-within-requires-2 : tie.Need-join-within-requires-2
 join-within-requires-2 c κs = search needs
 
 returns : tie.Need-returns
-returns c = search across-all
+returns c =
+    let j = c .before .before in
+    let m = j .before .before in
+    let f = m .before .before in
+    let e = f .before in
+    let p = e .before .pre in
+    across-all _ _ _ _ _ _ _ _ (p .0) (p .1) _ _ _ _ _ _ _ _ (p .4) (p .2) (p .3) (e .place-in .ensures) (f .place-in2 .ensures) (m .mark .ensures) (j .join-within .ensures) (c .join-within2 .ensures)
 
 pub arcs-across-spec : {M : Type 1} → statement M
 arcs-across-spec =

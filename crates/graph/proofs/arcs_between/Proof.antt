@@ -10,8 +10,8 @@ last-within-requires c κs = search needs
 enum-known-l : tie.Need-enum-known-l
 enum-known-l c = search needs
 
-number-at-requires : tie.Need-number-at-requires
-number-at-requires c κs = search needs
+run-of-requires : tie.Need-run-of-requires
+run-of-requires c κs = search needs
 
 mark-requires : tie.Need-mark-requires
 mark-requires c κs = search (needs, found-small)
@@ -37,7 +37,7 @@ arcs-between-spec =
     (tie.spec
     last-within-requires
     enum-known-l
-    number-at-requires
+    run-of-requires
     mark-requires
     arcs-across-requires
     enum-told

@@ -24,8 +24,8 @@ sized-by-place-requires c κs = search needs
 sized-positions-requires : tie.Need-sized-positions-requires Inv-loop μ-loop
 sized-positions-requires c κs = search needs
 
-number-at-requires : tie.Need-number-at-requires Inv-loop μ-loop
-number-at-requires c κs = search needs
+run-of-requires : tie.Need-run-of-requires Inv-loop μ-loop
+run-of-requires c κs = search needs
 
 element-copy-out-i : tie.Need-element-copy-out-i Inv-loop μ-loop
 element-copy-out-i c = search needs
@@ -79,7 +79,7 @@ by-place-spec =
     sized-by-run-requires
     sized-by-place-requires
     sized-positions-requires
-    number-at-requires
+    run-of-requires
     element-copy-out-i
     wide-requires
     element-copy-out-kinds-at

@@ -31,7 +31,13 @@ loop-less : tie.Need-loop-less Inv-loop μ-loop
 loop-less c = search needs
 
 loop-again : tie.Need-loop-again Inv-loop μ-loop
-loop-again c = (search needs, search taken-more)
+loop-again c =
+    let j = c .before .before in
+    let i = j .before .before in
+    let f = i .before in
+    let l = f .before .before in
+    let a = l .before in
+    (search needs, taken-more _ _ _ _ _ _ (l .loop-test .taken) (a .loop .inv .0) (a .before .pre .0) (a .loop .inv .1) (f .fresh .ensures) _ _ (i .if1 .taken) (j .join .ensures) (c .mark .ensures))
 
 loop-less-2 : tie.Need-loop-less-2 Inv-loop μ-loop
 loop-less-2 c = search needs

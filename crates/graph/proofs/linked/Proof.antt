@@ -28,11 +28,11 @@ element-copy-out-if2-2 c = search needs
 returns-2 : tie.Need-returns-2
 returns-2 c = search link-position
 
-number-at-requires : tie.Need-number-at-requires
-number-at-requires c κs = search needs
+kind-of-requires : tie.Need-kind-of-requires
+kind-of-requires c κs = search needs
 
-number-at-requires-2 : tie.Need-number-at-requires-2
-number-at-requires-2 c κs = search needs
+kind-of-requires-2 : tie.Need-kind-of-requires-2
+kind-of-requires-2 c κs = search needs
 
 mul-if3 : tie.Need-mul-if3
 mul-if3 c = search needs
@@ -70,8 +70,8 @@ linked-spec =
     mul-if2-2
     element-copy-out-if2-2
     returns-2
-    number-at-requires
-    number-at-requires-2
+    kind-of-requires
+    kind-of-requires-2
     mul-if3
     add-if3
     element-copy-out-if3

@@ -23,8 +23,8 @@ sized-by-place-requires c κs = search needs
 sized-by-step-requires : tie.Need-sized-by-step-requires Inv-loop μ-loop
 sized-by-step-requires c κs = search needs
 
-number-at-requires : tie.Need-number-at-requires Inv-loop μ-loop
-number-at-requires c κs = search needs
+run-of-requires : tie.Need-run-of-requires Inv-loop μ-loop
+run-of-requires c κs = search needs
 
 array-read-i : tie.Need-array-read-i Inv-loop μ-loop
 array-read-i c = search needs
@@ -74,7 +74,7 @@ number-spec =
     loop-holds
     sized-by-place-requires
     sized-by-step-requires
-    number-at-requires
+    run-of-requires
     array-read-i
     element-write-ordinals
     wide-requires

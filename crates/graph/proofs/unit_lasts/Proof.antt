@@ -22,8 +22,8 @@ loop-holds c = (search needs, search lasts-none, search kept-none)
 sub-p : tie.Need-sub-p Inv-loop μ-loop
 sub-p c = search needs
 
-number-at-requires : tie.Need-number-at-requires Inv-loop μ-loop
-number-at-requires c κs = search needs
+run-of-requires : tie.Need-run-of-requires Inv-loop μ-loop
+run-of-requires c κs = search needs
 
 element-copy-out-wide : tie.Need-element-copy-out-wide Inv-loop μ-loop
 element-copy-out-wide c = search needs
@@ -90,7 +90,7 @@ unit-lasts-spec =
     μ-loop
     loop-holds
     sub-p
-    number-at-requires
+    run-of-requires
     element-copy-out-wide
     wide-requires
     add-i

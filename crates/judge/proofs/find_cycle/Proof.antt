@@ -74,7 +74,13 @@ same-length : tie.Need-same-length Inv-loop μ-loop
 same-length c = search needs
 
 returns : tie.Need-returns Inv-loop μ-loop
-returns c = search closed
+returns c =
+    let p = c .before .before in
+    let i = p .before .before .before in
+    let s = i .before in
+    let o = s .before .before .before .before in
+    let l = o .before .before in
+    closed _ _ _ (l .before .before .before .pre .0) _ _ _ _ (l .loop .inv .2) _ _ (o .first-outside .ensures) (s .before .before .x .given .1) _ (s .wide .ensures) (i .if1 .taken) _ _ _ (l .loop .inv .0) (p .copy-part .ensures)
 
 loop-less : tie.Need-loop-less Inv-loop μ-loop
 loop-less c = search needs

@@ -69,22 +69,22 @@ put-run-requires : tie.Need-put-run-requires Inv-loop μ-loop
 put-run-requires c κs =
     let t = c .before .before .before in
     let l = t .before in (
-      turn-held (l .loop .r) (l .loop .base) (c .before .wide .result) (l .before .before .pre .0) (t .loop-test .taken) (l .loop .inv .1) (c .before .wide .ensures),
-      rw (l .loop .inv .1, c .before .wide .ensures) (putting-left (l .loop .inv .0) (t .loop-test .taken)),
+      turn-held (l .loop .r) (l .loop .base) (c .before .wide .result) (l .before .before .pre .0) (t .loop-test .taken) (l .loop .inv .1) (c .before .wide .ensures .0),
+      rw (l .loop .inv .1, c .before .wide .ensures .0) (putting-left (l .loop .inv .0) (t .loop-test .taken)),
     )
 
 add-at : tie.Need-add-at Inv-loop μ-loop
 add-at c =
     let t = c .before .before .before .before .before .before in
     let s = t .before .before .before in
-    omega (arith, putting-room (t .before .loop .inv .0) (t .loop-test .taken), this-run (s .args .kinds .now) (s .args .positions .now) (t .before .loop .r) (t .before .loop .inv .1) (c .before .before .before .before .wide .ensures) (c .before .before .put-run .ensures) .count)
+    omega (arith, putting-room (t .before .loop .inv .0) (t .loop-test .taken), this-run (s .args .kinds .now) (s .args .positions .now) (t .before .loop .r) (t .before .loop .inv .1) (c .before .before .before .before .wide .ensures .0) (c .before .before .put-run .ensures) .count)
 
 add-base : tie.Need-add-base Inv-loop μ-loop
 add-base c =
     let t = c .before .before .before .before .before .before in
     let l = t .before in
     let count = c .before .before .before .before .wide in
-    omega (arith, turn-held (l .loop .r) (l .loop .base) (count .result) (l .before .before .pre .0) (t .loop-test .taken) (l .loop .inv .1) (count .ensures) .within)
+    omega (arith, turn-held (l .loop .r) (l .loop .base) (count .result) (l .before .before .pre .0) (t .loop-test .taken) (l .loop .inv .1) (count .ensures .0) .within)
 
 add-r : tie.Need-add-r Inv-loop μ-loop
 add-r c = search needs
@@ -96,7 +96,7 @@ loop-again : tie.Need-loop-again Inv-loop μ-loop
 loop-again c =
     let t = c .before .before .before .before .before .before in
     let s = t .before .before .before in
-    let count = c .before .before .before .before .wide .ensures in (
+    let count = c .before .before .before .before .wide .ensures .0 in (
       putting-next (t .before .loop .inv .0) (t .loop-test .taken) (this-run (s .args .kinds .now) (s .args .positions .now) (t .before .loop .r) (t .before .loop .inv .1) count (c .before .before .put-run .ensures)),
       rw add-one (omega (arith, t .before .loop .inv .1, count, sum-take-suc (s .args .lens .now) (t .before .loop .r))),
     )

@@ -33,16 +33,16 @@ use denote.Exit.{yes}
 use Rattle.book.specs.declared.Reader.{Reader}
 use Rattle.book.proofs.Reader as T
 use Rattle.book.proofs.Reader.Laws as T′
-use Rattle.book.proofs.place_of.Key.{name as #book·place-of}
-use Rattle.book.proofs.place_of as place-of
-use Rattle.book.proofs.place_of.Statement as stated
-use Rattle.book.proofs.place_of.Code as code
+use Rattle.book.proofs.offset_of.Key.{name as #book·offset-of}
+use Rattle.book.proofs.offset_of as offset-of
+use Rattle.book.proofs.offset_of.Statement as stated
+use Rattle.book.proofs.offset_of.Code as code
 
 -- the struct's type, over the signature's lifetimes
 abbrev B : Lfts 1 → RattleType
 B κs = T.the-row (namedLft 1 0 tt κs)
 
-abbrev stayed : Stays (place-of.ended .signature .params) (place-of.ended .kept)
+abbrev stayed : Stays (offset-of.ended .signature .params) (offset-of.ended .kept)
 stayed = (stay-none B yes, tt)
 
 module _ {M : Type 1} (𝓤 : URA M) (H : Heap 𝓤) (A : Atoms 𝓤) (W : Given 𝓤 H A) (mem : Memory → SProp 𝓤) (run : Routine → Fun 𝓤) (κ : Lft) (q : Share) (d : Reader) where
@@ -50,16 +50,16 @@ module _ {M : Type 1} (𝓤 : URA M) (H : Heap 𝓤) (A : Atoms 𝓤) (W : Given
   mach = T′.lowered d
 
   abbrev Post : Val → SProp 𝓤
-  Post = walkOf 𝓤 H A place-of.ended stayed (place-of.clauses 𝓤 H A mem run) .post (((κ, tt), (q, tt), tt, (d, tt), (mach ∷ [], tt)), tt)
+  Post = walkOf 𝓤 H A offset-of.ended stayed (offset-of.clauses 𝓤 H A mem run) .post (((κ, tt), (q, tt), tt, (d, tt), (mach ∷ [], tt)), tt)
 
-  exits : d .at < 2 ^ 64 → ent 𝓤 (onEntry 𝓤 H A place-of.signature (κ, tt) (q, tt) (d, tt) (mach ∷ [], tt)) (Post (vint w64 (d .at)))
+  exits : d .at < 2 ^ 64 → ent 𝓤 (onEntry 𝓤 H A offset-of.signature (κ, tt) (q, tt) (d, tt) (mach ∷ [], tt)) (Post (vint w64 (d .at)))
   exits g =
       qed W ((‵ (flft κ q) ⊛ ‵ ftrue) ∷ ‵ (owns (B (κ, tt) ∷ []) (d, tt) (mach ∷ [], tt)) ∷ []) ∵
-      suffices ! _ (ends-at 𝓤 H A place-of.ended stayed (place-of.clauses 𝓤 H A mem run) W (((κ, tt), (q, tt), tt, (d, tt), (mach ∷ [], tt)), tt) (vint w64 (d .at)) (d .at) (tt, tt) (tt, tt)) $ says ! refl $
+      suffices ! _ (ends-at 𝓤 H A offset-of.ended stayed (offset-of.clauses 𝓤 H A mem run) W (((κ, tt), (q, tt), tt, (d, tt), (mach ∷ [], tt)), tt) (vint w64 (d .at)) (d .at) (tt, tt) (tt, tt)) $ says ! refl $
       frame ! $ frame ! $ owned ! usize (Is usize) (uint-makes 𝓤 H A W w64) (d .at) _ (refl, g) $ done !
 
   module _ (C : Calls 𝓤 H) (Λ : Loops 𝓤 H) where
-    walk : Is (B (κ, tt)) d (mach ∷ []) → ent 𝓤 (onEntry 𝓤 H A place-of.signature (κ, tt) (q, tt) (d, tt) (mach ∷ [], tt)) (WpFn 𝓤 H C Λ code.function (mach ∷ []) Post)
+    walk : Is (B (κ, tt)) d (mach ∷ []) → ent 𝓤 (onEntry 𝓤 H A offset-of.signature (κ, tt) (q, tt) (d, tt) (mach ∷ [], tt)) (WpFn 𝓤 H C Λ code.function (mach ∷ []) Post)
     walk p =
         qed W ((‵ (flft κ q) ⊛ ‵ ftrue) ∷ ‵ (owns (B (κ, tt) ∷ []) (d, tt) (mach ∷ [], tt)) ∷ []) ∵ enter ! C Λ code.function (mach ∷ []) _ $
         alloc1 ! (λ l₀. alloc1 ! (λ l₁. alloc0 ! $ params1 ! $
@@ -68,17 +68,17 @@ module _ {M : Type 1} (𝓤 : URA M) (H : Heap 𝓤) (A : Atoms 𝓤) (W : Given
         returns ! (look ! 2 refl) $ forget ! 0 refl $ forget ! 2 refl $ move ! (2 ∷ 3 ∷ []) $ free1 ! $ free1 ! $ free0 ! $ by ! (exits (p .1 .1 .1 .0 .1))))
 
 module _ {M : Type 1} (𝓤 : URA M) (H : Heap 𝓤) (A : Atoms 𝓤) (W : Given 𝓤 H A) (mem : Memory → SProp 𝓤) (run : Routine → Fun 𝓤) where
-  walks : (C : Calls 𝓤 H) (Λ : Loops 𝓤 H) → Walks 𝓤 H A place-of.ended stayed (WpFn 𝓤 H C Λ code.function) (place-of.clauses 𝓤 H A mem run)
-  walks C Λ = walked 𝓤 H A place-of.ended stayed (place-of.clauses 𝓤 H A mem run) (WpFn 𝓤 H C Λ code.function) (λ κs. (LL.vals (T.the-type (namedLft 1 0 tt κs)) (T′.the-laws (namedLft 1 0 tt κs)), tt)) (λ κs. (LL.tells (T.the-type (namedLft 1 0 tt κs)) (T′.the-laws (namedLft 1 0 tt κs)), tt))
+  walks : (C : Calls 𝓤 H) (Λ : Loops 𝓤 H) → Walks 𝓤 H A offset-of.ended stayed (WpFn 𝓤 H C Λ code.function) (offset-of.clauses 𝓤 H A mem run)
+  walks C Λ = walked 𝓤 H A offset-of.ended stayed (offset-of.clauses 𝓤 H A mem run) (WpFn 𝓤 H C Λ code.function) (λ κs. (LL.vals (T.the-type (namedLft 1 0 tt κs)) (T′.the-laws (namedLft 1 0 tt κs)), tt)) (λ κs. (LL.tells (T.the-type (namedLft 1 0 tt κs)) (T′.the-laws (namedLft 1 0 tt κs)), tt))
       (λ κs qs bounds a g are. via 𝓤 _ (fst∗ 𝓤 _ (emp 𝓤)) (walk 𝓤 H A W mem run (κs .0) (qs .0) (a .0) C Λ (are .0)))
 
 meets : {M : Type 1} (𝓤 : URA M) (H : Heap 𝓤) (A : Atoms 𝓤) → Given 𝓤 H A → (mem : Memory → SProp 𝓤) (run : Routine → Fun 𝓤) (𝓣 : Tables 𝓤 H)
-    → Meets 𝓤 H A place-of.signature (WpFn 𝓤 H (𝓣 .C) (𝓣 .Λ) code.function) (place-of.spec 𝓤 H A mem run)
-meets 𝓤 H A W mem run 𝓣 = walk-meets 𝓤 H A place-of.ended stayed W (goes-none 𝓤 H A W 1 B yes (λ κs x f. refl), tt) (place-of.clauses 𝓤 H A mem run) (WpFn 𝓤 H (𝓣 .C) (𝓣 .Λ) code.function) (WpFn-mono 𝓤 H (W .laws) 𝓣 code.function) (walks 𝓤 H A W mem run (𝓣 .C) (𝓣 .Λ))
+    → Meets 𝓤 H A offset-of.signature (WpFn 𝓤 H (𝓣 .C) (𝓣 .Λ) code.function) (offset-of.spec 𝓤 H A mem run)
+meets 𝓤 H A W mem run 𝓣 = walk-meets 𝓤 H A offset-of.ended stayed W (goes-none 𝓤 H A W 1 B yes (λ κs x f. refl), tt) (offset-of.clauses 𝓤 H A mem run) (WpFn 𝓤 H (𝓣 .C) (𝓣 .Λ) code.function) (WpFn-mono 𝓤 H (W .laws) 𝓣 code.function) (walks 𝓤 H A W mem run (𝓣 .C) (𝓣 .Λ))
 
-pub place-of-spec : {M : Type 1} → stated.statement M
+pub offset-of-spec : {M : Type 1} → stated.statement M
 unfolding code.routine tablesOf
-place-of-spec 𝓤 H 𝓜 𝓖 𝓡 =
-    entered 𝓤 H (tripleOf 𝓤 H (𝓖 .A) place-of.signature (place-of.spec 𝓤 H (𝓖 .A) (𝓜 .mem) (𝓡 .run)))
-    (tables 𝓤 H 𝓜 𝓡 code.env .C) (tables 𝓤 H 𝓜 𝓡 code.env .Λ) #book·place-of code.function (code.unfolded 𝓤 H 𝓜 𝓡)
+offset-of-spec 𝓤 H 𝓜 𝓖 𝓡 =
+    entered 𝓤 H (tripleOf 𝓤 H (𝓖 .A) offset-of.signature (offset-of.spec 𝓤 H (𝓖 .A) (𝓜 .mem) (𝓡 .run)))
+    (tables 𝓤 H 𝓜 𝓡 code.env .C) (tables 𝓤 H 𝓜 𝓡 code.env .Λ) #book·offset-of code.function (code.unfolded 𝓤 H 𝓜 𝓡)
     (meets 𝓤 H (𝓖 .A) (givenOf 𝓤 H 𝓜 𝓖) (𝓜 .mem) (𝓡 .run) (tablesOf 𝓤 H 𝓜 (tables 𝓤 H 𝓜 𝓡 code.env)))

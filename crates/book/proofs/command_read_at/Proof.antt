@@ -1,8 +1,8 @@
 -- `command_at` decides the command, whose bytes are there, so the offset behind it is within the bytes and fits.
 use Rattle.book.proofs.Commands.{behind-fits, taken-as}
 use borrow.Author.Needs.{needs}
-use Rattle.book.proofs.taken_at.Statement.{statement}
-use Rattle.book.proofs.taken_at.Tie as tie
+use Rattle.book.proofs.command_read_at.Statement.{statement}
+use Rattle.book.proofs.command_read_at.Tie as tie
 
 command-at-requires : tie.Need-command-at-requires
 command-at-requires c κs = search needs
@@ -16,5 +16,5 @@ add-behind c = search behind-fits
 returns : tie.Need-returns
 returns c = search taken-as
 
-pub taken-at-spec : {M : Type 1} → statement M
-taken-at-spec = tie.close (tie.spec command-at-requires width-requires add-behind returns)
+pub command-read-at-spec : {M : Type 1} → statement M
+command-read-at-spec = tie.close (tie.spec command-at-requires width-requires add-behind returns)
