@@ -9,7 +9,7 @@ use mathlib.Core.List.{List}
 use lib.ListN.{getD}
 use Rattle.bits.specs.Table.{row-words, row-bits, bit, bit-at, intersection, difference, Within}
 use Rattle.bits.specs.First.{FirstAt, NoColumn}
-use Rattle.bits.specs.Last.{Length, LastAt}
+use Rattle.bits.specs.Last.{BitLength, LastAt}
 use Rattle.bits.proofs.Word.{trailing-at, trailing-below}
 use Rattle.bits.proofs.Store.{at-column, in-words}
 
@@ -66,7 +66,7 @@ pub none-above-end : {f : ℕ → ℕ} {k : ℕ} → k ≤ 0 → NoneAbove f k �
 none-above-end h p = record { none = λ j r. p .none j (omega arith) r }
 
 -- g is the part of f in the word k - 1, and b its length
-module _ {f g : ℕ → ℕ} {k b : ℕ} (n : NoneAbove f k) (hk : 0 < k) (l : Length g b) (part : (c : ℕ) → c / 64 ≡ k - 1 → g (c % 64) ≡ f c) where
+module _ {f g : ℕ → ℕ} {k b : ℕ} (n : NoneAbove f k) (hk : 0 < k) (l : BitLength g b) (part : (c : ℕ) → c / 64 ≡ k - 1 → g (c % 64) ≡ f c) where
   none-after : (j : ℕ) → 64 * (k - 1) + b ≤ j → j < row-bits → f j ≡ 0
   none-after j a r = go (decLt j (64 * k))
     where
@@ -91,7 +91,7 @@ module _ {f g : ℕ → ℕ} {k b : ℕ} (n : NoneAbove f k) (hk : 0 < k) (l : L
 
 -- the words of a row and of a mask
 module _ (t mask : List ℕ) (row k b : ℕ) (n : NoneAbove (intersection (bit-at t row) (bit-at mask 0)) k) (hk : 0 < k)
-    (l : Length (intersection (bit (getD t (row-words * row + (k - 1)) 0)) (bit (getD mask (k - 1) 0))) b) where
+    (l : BitLength (intersection (bit (getD t (row-words * row + (k - 1)) 0)) (bit (getD mask (k - 1) 0))) b) where
   pub within-at : 0 < b → LastAt (intersection (bit-at t row) (bit-at mask 0)) (64 * (k - 1) + b - 1)
   within-at = last-at n hk l (λ c e. in-words min t mask row (k - 1) c e)
 

@@ -7,7 +7,7 @@ use native.Mathlib.Omega.{arith}
 use lib.Bits.{bitAnd, bitOr, and-mask}
 use lib.ListN.{length, getD, set, length-set, replicate}
 use lib.Seq.{getD-set-same, getD-set-other}
-use Rattle.bits.specs.Table.{row-words, row-bits, bit, bit-at, union, Marked, Replaced, Copied}
+use Rattle.bits.specs.Table.{row-words, row-bits, bit, bit-at, union, Marked, Replaced, RowCopied}
 use Rattle.bits.proofs.Word.{bit-lt, bit-or, bit-zero, set-here, set-other}
 
 pub bit-at-lt : (t : List ℕ) (row col : ℕ) → bit-at t row col < 2
@@ -135,5 +135,5 @@ copied-more z t m row k hk e b =
     let i : row-words * 0 + k ≡ k = omega arith in
     rw i at (replaced-more z m 0 (bit-at t row) k (getD t (row-words * row + k) 0) (omega (arith, b .size)) hk b (λ c q. in-word t (row-words * row + k) row c (omega arith)))
 
-pub copied-all : (z t m : List ℕ) (row k : ℕ) → row-words ≤ k → ReplacedUpTo z m 0 (bit-at t row) k → Copied t row m
+pub copied-all : (z t m : List ℕ) (row k : ℕ) → row-words ≤ k → ReplacedUpTo z m 0 (bit-at t row) k → RowCopied t row m
 copied-all z t m row k h b = record { same = λ c hc. b .here c (omega arith) }

@@ -7,7 +7,7 @@ use Rattle.bits.specs.declared.Found.{Found}
 use Rattle.bits.specs.declared.Found.the-variants.{At, Nothing}
 
 -- of the 64 bits f, n - 1 is the last, or n is 0 and there is none
-pub record Length (f : ℕ → ℕ) (n : ℕ) : Type 0 where
+pub record BitLength (f : ℕ → ℕ) (n : ℕ) : Type 0 where
   pub in-word : n ≤ 64
   pub here : 0 < n → f (n - 1) ≡ 1
   pub after : (j : ℕ) → n ≤ j → j < 64 → f j ≡ 0

@@ -50,7 +50,7 @@ pub record Replaced (t u : List ℕ) (dst : ℕ) (f : ℕ → ℕ) : Type 0 wher
   pub other : (r c : ℕ) → c < row-bits → (r ≡ dst → ⊥) → bit-at u r c ≡ bit-at t r c
 
 -- m is the row of t, by itself
-pub record Copied (t : List ℕ) (row : ℕ) (m : List ℕ) : Type 0 where
+pub record RowCopied (t : List ℕ) (row : ℕ) (m : List ℕ) : Type 0 where
   pub same : (c : ℕ) → c < row-bits → bit-at m 0 c ≡ bit-at t row c
 
 -- answer says whether every column of f is one of g

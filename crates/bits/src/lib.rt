@@ -4,9 +4,9 @@ ghost use Prim.Native.Nat.{ℕ, _<_};
 ghost use lib.ListN.{length};
 ghost use lib.Dec.{eqb};
 ghost use Rattle.bits.specs.Table.{row-words, row-bits, rows, table-words, bit, bit-at};
-ghost use Rattle.bits.specs.Table.{union, intersection, difference, Marked, Replaced, Copied, Within};
+ghost use Rattle.bits.specs.Table.{union, intersection, difference, Marked, Replaced, RowCopied, Within};
 ghost use Rattle.bits.specs.First.{First};
-ghost use Rattle.bits.specs.Last.{Length, Last};
+ghost use Rattle.bits.specs.Last.{BitLength, Last};
 
 // The number of words in a row. The other sizes follow from it.
 pub const ROW_WORDS: usize = 2;
@@ -127,7 +127,7 @@ pub fn within(t: &Table, row: usize, mask: &Row) -> bool
 
 // One more than the last bit that w and m have in common, or 0 where there is none.
 fn common_length(w: u64, m: u64) -> usize
-    ensures { λ r. ⌜ Length (intersection (bit w) (bit m)) r ⌝ }
+    ensures { λ r. ⌜ BitLength (intersection (bit w) (bit m)) r ⌝ }
 {
     64 - u64::leading_zeros(w & m) as usize
 }
@@ -151,7 +151,7 @@ pub fn last_within(t: &Table, row: usize, mask: &Row) -> Found
 // A row of the table, by itself.
 pub fn row_of(t: &Table, row: usize) -> Row
     requires { ⌜ row < rows ⌝ }
-    ensures { λ r. ⌜ Copied (now (t .entry)) row r ⌝ }
+    ensures { λ r. ⌜ RowCopied (now (t .entry)) row r ⌝ }
 {
     let mut m = [0; ROW_WORDS];
     for k in 0..ROW_WORDS {

@@ -28,12 +28,12 @@ YesWhere P yes = P
 YesWhere P no = ¬ P
 
 -- a book that is refused: the same cause, number and place
-pub record RefusedAs (cause : Cause) (place : ℕ) (r : Reply) : Type 0 where
+pub record ReplyRefused (cause : Cause) (place : ℕ) (r : Reply) : Type 0 where
   pub reply : r ≡ Refused cause place
   pub answer : answer-of r ≡ refused-by (number cause) place
 
 abbrev pub RepliesTo : Outcome → (Contents → Type 0) → Reply → Type 0
-RepliesTo (refused cause place) P r = RefusedAs cause place r
+RepliesTo (refused cause place) P r = ReplyRefused cause place r
 RepliesTo (accepted c) P r = YesWhere (P c) (answer-of r)
 
 -- r is the reply to a book's bytes s, asked whether its contents have the property P

@@ -17,8 +17,8 @@ use Rattle.graph.specs.Answers.{Answers}
 use Rattle.graph.proofs.Answered.{answer-no, refute}
 use Rattle.graph.specs.Marks.{Marks}
 use Rattle.graph.proofs.BookTables.{book-done}
-use Rattle.evidence.specs.Inner.{EquivalentBy, CycleBy, ArcBy, with-history}
-use Rattle.evidence.proofs.HistoryLaws.{valid-with-history, with-history-serial}
+use Rattle.evidence.specs.Inner.{EquivalentBy, CycleBy, ArcBy, with-order}
+use Rattle.evidence.proofs.HistoryLaws.{valid-with-order, with-order-serial}
 
 module _ (b : Book) (v : Valid b) where
   module _ (arc : List ℕ) (m : Marks (Arc (conflict-of (contents-of b)) (unit-of (contents-of b)) (contents-of b .history)) arc) (t : Bool) where
@@ -36,14 +36,14 @@ module _ (b : Book) (v : Valid b) where
     pub not-equivalent : t ≡ false → Answers (RelativelySerialOrder (conflict-of (contents-of b)) (unit-of (contents-of b)) (contents-of b .history) l) false
     not-equivalent e = answer-no (λ s. refute equivalent e (s .equivalent))
 
-    module _ (e : t ≡ true) (u : Book) (is : u ≡ with-history b l) where
+    module _ (e : t ≡ true) (u : Book) (is : u ≡ with-order b l) where
       pub reordered-valid : Valid u
-      reordered-valid = rw is (valid-with-history b v l (equivalent .sound e .order))
+      reordered-valid = rw is (valid-with-order b v l (equivalent .sound e .order))
 
       pub order-answer : (q : Bool) → Answers (RelativelySerial (conflict-of (contents-of u)) (unit-of (contents-of u)) (contents-of u .history)) q
           → Answers (RelativelySerialOrder (conflict-of (contents-of b)) (unit-of (contents-of b)) (contents-of b .history) l) q
       order-answer q s =
-          let r = with-history-serial b v l (equivalent .sound e .order) u is q s in
+          let r = with-order-serial b v l (equivalent .sound e .order) u is q s in
           record { sound = λ x. record { equivalent = equivalent .sound e; serial = r .sound x }; complete = λ x. r .complete (x .serial) }
 
   -- the list of an order fits into the history's array

@@ -18,7 +18,7 @@ use Rattle.book.proofs.Books.{history-long, history-is}
 use Rattle.graph.proofs.BookTables.{book-done}
 use Rattle.graph.specs.Answers.{Answers}
 use Rattle.judge.proofs.Copying.{Copying, copying-all}
-use Rattle.evidence.specs.Inner.{with-history}
+use Rattle.evidence.specs.Inner.{with-order}
 
 -- ---- l in front of what was there
 
@@ -65,8 +65,8 @@ module _ (b : Book) (v : Valid b) (l : List ℕ) (o : Order (contents-of b .hist
       small i (yes j) = rw (List·getD-append l (drop (length l) (b .history)) 0 i j) (run-small i j)
       small i (no n) = rw (beyond i (omega arith)) (v .history .small i)
 
-  pub valid-with-history : Valid (with-history b l)
-  valid-with-history = record {
+  pub valid-with-order : Valid (with-order b l)
+  valid-with-order = record {
     pairs = v .pairs;
     cuts = v .cuts;
     kinds = v .kinds;
@@ -83,10 +83,10 @@ module _ (b : Book) (v : Valid b) (l : List ℕ) (o : Order (contents-of b .hist
   }
 
   -- the test of the book with l as its history tells of l
-  pub with-history-serial : (u : Book) → u ≡ with-history b l → (t : Bool)
+  pub with-order-serial : (u : Book) → u ≡ with-order b l → (t : Bool)
       → Answers (RelativelySerial (conflict-of (contents-of u)) (unit-of (contents-of u)) (contents-of u .history)) t
       → Answers (RelativelySerial (conflict-of (contents-of b)) (unit-of (contents-of b)) l) t
   unfolding contents-of
-  with-history-serial u is t a =
+  with-order-serial u is t a =
       subst (λ (k : List ℕ). Answers (RelativelySerial (conflict-of (contents-of b)) (unit-of (contents-of b)) k) t) stored
       (subst (λ (x : Book). Answers (RelativelySerial (conflict-of (contents-of x)) (unit-of (contents-of x)) (contents-of x .history)) t) is a)

@@ -30,8 +30,8 @@ with-array b history = record {
 }
 
 -- the book with l, in front of what else stood there, as its history
-abbrev pub with-history : Book → List ℕ → Book
-with-history b l = with-array b (l ++ drop (length l) (b .history))
+abbrev pub with-order : Book → List ℕ → Book
+with-order b l = with-array b (l ++ drop (length l) (b .history))
 
 -- p is the first place of run r that is not taken
 pub record NextAt (history taken : List ℕ) (n r p : ℕ) : Type 0 where

@@ -15,7 +15,7 @@ ghost use Rattle.book.specs.Meaning.{conflict-of, unit-of};
 ghost use Rattle.classes.specs.Reply.{Replies};
 ghost use Rattle.classes.specs.Inner.{History};
 ghost use Rattle.graph.specs.Answers.{Answers};
-ghost use Rattle.evidence.specs.Inner.{NextStep, EquivalentBy, Follows, CycleBy, ArcBy, with-history};
+ghost use Rattle.evidence.specs.Inner.{NextStep, EquivalentBy, Follows, CycleBy, ArcBy, with-order};
 
 // The first place of run r that is not taken.
 fn next_step(history: &[u8; Book::STEPS], n: usize, taken: &Row, r: u8) -> Found
@@ -115,9 +115,9 @@ fn arc_by(arc: &Table, n: usize, x: usize, y: usize) -> bool
 }
 
 // The book with l, a list as long as its history, in place of its history.
-fn with_history(b: Book, l: &[u8]) -> Book
+fn with_order(b: Book, l: &[u8]) -> Book
     requires { ⌜ (length (now l) ≤ step-limit) × (length (b .history) ≡ step-limit) ⌝ }
-    ensures { λ r. ⌜ r ≡ with-history b (now (l .entry)) ⌝ }
+    ensures { λ r. ⌜ r ≡ with-order b (now (l .entry)) ⌝ }
 {
     let mut history = b.history;
     for i in 0..l.len() {
@@ -139,7 +139,7 @@ fn is_relatively_serial_order(b: Book, l: &[u8]) -> bool
     if !equivalent_by(&history, b.done, &dep, l) {
         return false;
     }
-    let reordered = with_history(b, l);
+    let reordered = with_order(b, l);
     classes::is_relatively_serial(reordered)
 }
 

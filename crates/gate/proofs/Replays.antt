@@ -18,7 +18,7 @@ use Rattle.gate.specs.Plain.{step}
 use Rattle.gate.specs.Gate.{answer-of, opening-answer, Sound, OpenedAs, CalledAs}
 use Rattle.gate.specs.Chain.{none}
 use Rattle.gate.specs.Replay.{is-call, call-of, calls-of, bad-at, answers-bytes, answers-in, played-by, Replays}
-use Rattle.gate.specs.Inner.{BytesOf, Room, Plays}
+use Rattle.gate.specs.Inner.{BytesOf, AnswersRoom, Plays}
 use Rattle.gate.specs.declared.Gate.{Gate}
 use Rattle.gate.specs.declared.Opened.{Opened}
 use Rattle.gate.specs.declared.Called.{Called}
@@ -41,7 +41,7 @@ pub record Round (g : Gate) (bs b : List ℕ) (n : ℕ) (z : List ℕ) (h : Gate
   pub sound : Sound h
   pub plays : Plays g (take i (calls-of bs)) b z h
 
-pub round-start : (g : Gate) (bs b : List ℕ) → Room g (calls-of bs) b → Round g bs b (length bs / 2) b g 0
+pub round-start : (g : Gate) (bs b : List ℕ) → AnswersRoom g (calls-of bs) b → Round g bs b (length bs / 2) b g 0
 round-start g bs b w = record {
   upto = zero-le;
   half = omega arith;
@@ -162,7 +162,7 @@ module _ (s bs b : List ℕ) (o : Opened) (w : OpenedAs (read s) o) where
           stops AnswersShort (rw (is-read .1, ← scanned, eq-eqb at (length bs) h, lt-leb (2 * length (calls-of bs)) (length b) (omega (arith, two-each))))
           (λ n q. let z : _≡_ {A = ℕ} 0 1 = cc in omega arith)
 
-      pub replay-room : length bs ≤ length b → Room (o .gate) (calls-of bs) b
+      pub replay-room : length bs ≤ length b → AnswersRoom (o .gate) (calls-of bs) b
       replay-room l = record { sound = w .sound; room = omega (arith, two-each) }
 
       pub replay-done : ((i : ℕ) → Fits w8 (getD s i 0)) → length bs ≤ length b → (z : List ℕ) (g : Gate) → Plays (o .gate) (calls-of bs) b z g

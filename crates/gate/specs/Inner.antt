@@ -58,7 +58,7 @@ pub record BytesOf (a : Reply) (b : AnswerBytes) : Type 0 where
   pub bytes : b .first ∷ b .second ∷ [] ≡ answer-bytes (answer-of a)
 
 -- a record, and room for two bytes a call
-pub record Room (g : Gate) (xs : List Call) (buffer : List ℕ) : Type 0 where
+pub record AnswersRoom (g : Gate) (xs : List Call) (buffer : List ℕ) : Type 0 where
   pub sound : Sound g
   pub room : 2 * length xs ≤ length buffer
 

@@ -8,7 +8,7 @@ ghost use Rattle.writer.specs.Render.{with-history};
 ghost use Rattle.gate.specs.Plain.{step as step-call, withdraw as withdraw-call};
 ghost use Rattle.gate.specs.Gate.{Sound, OpenedAs, CalledAs};
 ghost use Rattle.gate.specs.Replay.{call-of, calls-of, bad-at, Replays};
-ghost use Rattle.gate.specs.Inner.{Stands, StepLeft, Passes, Low, BytesOf, Room, Plays};
+ghost use Rattle.gate.specs.Inner.{Stands, StepLeft, Passes, Low, BytesOf, AnswersRoom, Plays};
 use book::Answer;
 use book::Book;
 use book::Cause;
@@ -287,7 +287,7 @@ fn bad_call(calls: &[u8]) -> usize
 
 // Makes the calls in turn on the one record, and puts their answers into the buffer.
 fn play(g: Gate, calls: &[u8], answers: &mut [u8]) -> Gate
-    requires { ⌜ Room g (calls-of (now calls)) (now answers) ⌝ }
+    requires { ⌜ AnswersRoom g (calls-of (now calls)) (now answers) ⌝ }
     ensures { λ h. ⌜ Plays g (calls-of (now (calls .entry))) (now (answers .entry)) (now (answers .exit)) h ⌝ }
 {
     let mut h = g;

@@ -6,7 +6,7 @@ use mathlib.Core.Path.{_≡_, refl, sym, ap, _∙_, subst}
 use mathlib.Core.Logic.{_⊎_, inl, inr, _≢_}
 use mathlib.Core.List.{List}
 use lib.ListN.{length, getD, take, replicate}
-use Rattle.bits.specs.Table.{row-bits, rows, bit-at, union, intersection, Marked, Replaced, Copied}
+use Rattle.bits.specs.Table.{row-bits, rows, bit-at, union, intersection, Marked, Replaced, RowCopied}
 use Rattle.bits.specs.First.{NoColumn}
 use Rattle.bits.specs.Last.{LastAt, Last}
 use Rattle.bits.specs.declared.Found.{Found}
@@ -348,7 +348,7 @@ pub masks-all : (h : List ℕ) (n p : ℕ) (t : List ℕ) → p ≤ n → n ≤ 
 masks-all h n p t a b w = let e : p ≡ n = omega arith in rw e at w
 
 pub mask-input : (hist : List ℕ) (n : ℕ) (dep firsts lasts masks mask : List ℕ) (r runs : ℕ) → HistoryOf hist n → Declared hist n runs → TablesOf (take n hist) dep firsts lasts
-    → Marks (InRun (take n hist) n) masks → Copied masks r mask → r < runs
+    → Marks (InRun (take n hist) n) masks → RowCopied masks r mask → r < runs
     → ArcInput hist n dep firsts lasts mask r
 mask-input hist n dep firsts lasts masks mask r runs hs ds a w c hr = record {
   history = hs;

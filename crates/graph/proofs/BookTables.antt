@@ -24,7 +24,7 @@ use Rattle.theory.proofs.Places.{Compared, eq-cases, eqb-of-eq, eqb-of-ne, ordi
 use Rattle.graph.specs.Marks.{Marks}
 use Rattle.graph.specs.Units.{Kept, UnitTables}
 use Rattle.graph.specs.Dependence.{Links, StepsRead}
-use Rattle.graph.specs.Tables.{Small, HistoryOf, Declared, Starts, Room, StepsByPlace, Link, Counts, CutsOf, EachBy, by-flag}
+use Rattle.graph.specs.Tables.{Small, HistoryOf, Declared, Starts, StepsRoom, StepsByPlace, Link, Counts, CutsOf, EachBy, by-flag}
 use Rattle.graph.specs.Arcs.{TablesOf, ArcRows}
 use Rattle.graph.proofs.Counting.{flag-none, flag-some, hist-length, hist-run, hist-small}
 use Rattle.graph.proofs.Steps.{sum-take, sum-take-le}
@@ -208,7 +208,7 @@ module _ (b : Book) (v : Valid b) where
   pub book-kinds : Small kind-limit (b .kinds)
   book-kinds = record { small = v .kinds .small }
 
-  pub book-room : (starts : List ℕ) → Starts (b .lens) starts → Room h starts
+  pub book-room : (starts : List ℕ) → Starts (b .lens) starts → StepsRoom h starts
   book-room starts s = record { room = λ r i hr h. omega (arith, s .are r hr, book-counts r, sum-take (b .lens) r, sum-take-le (b .lens) (suc r), book-sum) }
 
   -- the step of a place, in the contents and in the arrays

@@ -17,7 +17,7 @@ use Rattle.book.specs.Format.{kind-limit, run-limit, step-limit, sum}
 use Rattle.theory.specs.History.{count, run, ordinal}
 use Rattle.theory.proofs.Places.{count-take-lt, count-take-le}
 use Rattle.graph.specs.Answers.{Answers}
-use Rattle.graph.specs.Tables.{Small, HistoryOf, Starts, Room, ByPlace, StepsByPlace, Link}
+use Rattle.graph.specs.Tables.{Small, HistoryOf, Starts, StepsRoom, ByPlace, StepsByPlace, Link}
 use Rattle.graph.proofs.Answered.{answer-yes, answer-no}
 use Rattle.graph.proofs.Counting.{low, below-next, count-take-ne, hist-length, hist-run}
 
@@ -95,7 +95,7 @@ by-place-more h starts values t p s l e w = record { at = λ k j. at k (below-ne
     at k (inl z) = rw z (getD-set-same t p (getD values s 0) 0 l ∙ ap (λ (x : ℕ). getD values x 0) e)
     at k (inr j) = getD-set-other t p k (getD values s 0) 0 (λ z. omega arith) ∙ w .at k j
 
-module _ (hist starts kinds positions next kinds′ positions′ : List ℕ) (n p : ℕ) (hs : HistoryOf hist n) (room : Room (take n hist) starts)
+module _ (hist starts kinds positions next kinds′ positions′ : List ℕ) (n p : ℕ) (hs : HistoryOf hist n) (room : StepsRoom (take n hist) starts)
     (w : PlacesBelow (take n hist) starts kinds positions next kinds′ positions′ n p) (i : p < n)
     (r c : ℕ) (er : r ≡ getD hist p 0) (ec : c ≡ getD next r 0) where
   inside : p < length (take n hist)

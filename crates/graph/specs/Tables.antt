@@ -43,7 +43,7 @@ pub record Starts (lens starts : List ℕ) : Type 0 where
   pub are : (r : ℕ) → r < run-limit → getD starts r 0 ≡ sum (take r lens)
 
 -- the steps of h, of which run r's begin at starts r, are among step-limit
-pub record Room (h starts : List ℕ) : Type 0 where
+pub record StepsRoom (h starts : List ℕ) : Type 0 where
   pub room : (r i : ℕ) → r < run-limit → i < count h r → getD starts r 0 + i < step-limit
 
 -- at the place of a step stands in t what stands of the step in values

@@ -16,7 +16,7 @@ ghost use Rattle.graph.specs.Answers.{Answers};
 ghost use Rattle.graph.specs.Marks.{Marks};
 ghost use Rattle.graph.specs.Units.{units-size, Kept, UnitTables};
 ghost use Rattle.graph.specs.Dependence.{StepsRead, StepRead};
-ghost use Rattle.graph.specs.Tables.{places-size, Small, HistoryOf, Declared, NumberAt, Starts, Room, StepsByPlace, Link, Fresh};
+ghost use Rattle.graph.specs.Tables.{places-size, Small, HistoryOf, Declared, NumberAt, Starts, StepsRoom, StepsByPlace, Link, Fresh};
 ghost use Rattle.graph.specs.Tables.{Numbering, Counts, EachBy, RowRoom, RowSet, inherited};
 ghost use Rattle.graph.specs.Arcs.{ArcBy, ArcByPlaces, InRun, TablesOf, GainedBy, ArcRows, ArcInput, Rowed};
 ghost use Rattle.bits.specs.Table.{bit-at, intersection};
@@ -93,7 +93,7 @@ fn by_place(
     kinds_at: &mut [u8; Book::STEPS],
     positions_at: &mut [u16; Book::STEPS],
 )
-    requires { ⌜ HistoryOf (now hist) n × Room (take n (now hist)) (now next) × Small kind-limit (now kinds) × Small kind-limit (now «kinds_at») ⌝ }
+    requires { ⌜ HistoryOf (now hist) n × StepsRoom (take n (now hist)) (now next) × Small kind-limit (now kinds) × Small kind-limit (now «kinds_at») ⌝ }
     ensures { λ r. ⌜ StepsByPlace (take n (now (hist .entry))) (now (next .entry)) (now (kinds .entry)) (now (positions .entry)) (now («kinds_at» .exit)) (now («positions_at» .exit)) n ⌝ }
 {
     let mut p = 0;
@@ -229,7 +229,7 @@ pub fn dependences(b: Book, dep: &mut Table)
 }
 
 // The ordinal of each place, and the place of each step.
-fn number(
+fn number_places(
     hist: &[u8; Book::STEPS],
     n: usize,
     ordinals: &mut [u8; Book::STEPS],
@@ -346,7 +346,7 @@ pub fn units(b: Book, firsts: &mut Units, lasts: &mut Units)
     let n = b.done;
     let mut ordinals = [0u8; Book::STEPS];
     let mut places = [0u8; PLACES_SIZE];
-    number(&hist, n, &mut ordinals, &mut places);
+    number_places(&hist, n, &mut ordinals, &mut places);
     unit_firsts(&hist, n, &ordinals, &places, &b.cuts, firsts);
     unit_lasts(&hist, n, &ordinals, &places, &dones, &b.cuts, lasts);
 }

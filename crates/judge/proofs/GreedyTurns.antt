@@ -20,7 +20,7 @@ use Rattle.bits.specs.declared.Found.the-variants.{At, Nothing}
 use Rattle.bits.proofs.Store.{zeros-bit}
 use Rattle.book.specs.Format.{step-limit}
 use Rattle.graph.specs.Marks.{Marks}
-use Rattle.judge.specs.Inner.{In, ReadyIn, NoneReady, FirstReady, AllTaken, FirstUntaken, Stored, TakenAs, TurnsTaken}
+use Rattle.judge.specs.Inner.{InSet, ReadyIn, NoneReady, FirstReady, AllTaken, FirstUntaken, Stored, TakenAs, TurnsTaken}
 use Rattle.judge.proofs.ReadyPlaces.{not-in, both-ways, added-other, added-in, all-none, all-added}
 
 pub history-length : {history : List ℕ} {n : ℕ} → Stored history n → length (take n history) ≡ n
@@ -39,7 +39,7 @@ module _ (conflict : ℕ → ℕ → ℕ → ℕ → Bool) (unit : ℕ → ℕ �
   ready-in : (p : ℕ) → Ready conflict unit h l p → ReadyIn arc t p
   ready-in p r = record { untaken = not-in t p (λ o. r .untaken (g .sound p (r .inside) o)); sources = source }
     where
-      source : (x : ℕ) → x < row-bits → bit-at arc p x ≡ 1 → In t x
+      source : (x : ℕ) → x < row-bits → bit-at arc p x ≡ 1 → InSet t x
       source x s b =
           let a : Arc conflict unit h x p = marks .sound x p s (omega (arith, r .inside)) b in
           g .complete x (arc-source conflict unit a) (r .sources x a)
@@ -58,11 +58,11 @@ module _ (conflict : ℕ → ℕ → ℕ → ℕ → Bool) (unit : ℕ → ℕ �
       least k q (yes v) = v
       least k q (no v) = absurd (low .none k (omega arith) (ready-in k q))
 
-      sound-at : (q : ℕ) → q < length h → In u q → Dec (q ≡ p) → Taken h l q ⊎ (q ≡ p)
+      sound-at : (q : ℕ) → q < length h → InSet u q → Dec (q ≡ p) → Taken h l q ⊎ (q ≡ p)
       sound-at q j e (yes z) = inr z
       sound-at q j e (no z) = inl (g .sound q j (sym (added-other m q (omega arith) z) ∙ e))
 
-      complete-at : (q : ℕ) → q < length h → Taken h l q ⊎ (q ≡ p) → In u q
+      complete-at : (q : ℕ) → q < length h → Taken h l q ⊎ (q ≡ p) → InSet u q
       complete-at q j (inr e) = rw e (m .here)
       complete-at q j (inl k) = added-in m q (omega arith) (g .complete q j k)
 

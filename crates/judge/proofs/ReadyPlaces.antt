@@ -13,18 +13,18 @@ use Rattle.bits.specs.declared.Found.the-variants.{At, Nothing}
 use Rattle.bits.proofs.Store.{bit-at-lt}
 use Rattle.graph.specs.Answers.{Answers}
 use Rattle.graph.proofs.Answered.{answer-no, refute}
-use Rattle.judge.specs.Inner.{In, ReadyIn, NoneReady, FirstReady, AllTaken, FirstUntaken}
+use Rattle.judge.specs.Inner.{InSet, ReadyIn, NoneReady, FirstReady, AllTaken, FirstUntaken}
 
 -- ---- sets of places
 
-pub not-in : (t : List ℕ) (p : ℕ) → ¬ In t p → bit-at t 0 p ≡ 0
+pub not-in : (t : List ℕ) (p : ℕ) → ¬ InSet t p → bit-at t 0 p ≡ 0
 not-in t p n = omega (arith, n, bit-at-lt t 0 p)
 
 pub both-ways : {n : ℕ} → n ≡ 0 → ¬ (n ≡ 1)
 both-ways e f = omega arith
 
 -- what `bits::has` answers
-pub has-in : (t : List ℕ) (p : ℕ) (b : Bool) → b ≡ eqb (bit-at t 0 p) 1 → b ≡ true → In t p
+pub has-in : (t : List ℕ) (p : ℕ) (b : Bool) → b ≡ eqb (bit-at t 0 p) 1 → b ≡ true → InSet t p
 has-in t p b e h = eqb-true _ _ (sym e ∙ h)
 
 pub has-not : (t : List ℕ) (p : ℕ) (b : Bool) → b ≡ eqb (bit-at t 0 p) 1 → b ≡ false → bit-at t 0 p ≡ 0
@@ -34,10 +34,10 @@ module _ {t u : List ℕ} {p : ℕ} (m : Marked t u 0 p) where
   pub added-other : (q : ℕ) → q < row-bits → q ≢ p → bit-at u 0 q ≡ bit-at t 0 q
   added-other q h n = m .other 0 q h (λ w. n (w .1))
 
-  pub added-in : (q : ℕ) → q < row-bits → In t q → In u q
+  pub added-in : (q : ℕ) → q < row-bits → InSet t q → InSet u q
   added-in q h i = go (ℕ-discrete q p)
     where
-      go : Dec (q ≡ p) → In u q
+      go : Dec (q ≡ p) → InSet u q
       go (yes e) = rw e (m .here)
       go (no n) = added-other q h n ∙ i
 
@@ -52,7 +52,7 @@ all-none t = record { all = λ k l. absurd (low k l) }
 pub all-more : (t : List ℕ) (p : ℕ) (b : Bool) → AllTaken t p → b ≡ eqb (bit-at t 0 p) 1 → b ≡ true → AllTaken t (p + 1)
 all-more t p b a e h = record { all = λ k l. go k l (ℕ-discrete k p) }
   where
-    go : (k : ℕ) → k < p + 1 → Dec (k ≡ p) → In t k
+    go : (k : ℕ) → k < p + 1 → Dec (k ≡ p) → InSet t k
     go k l (yes q) = rw q (has-in t p b e h)
     go k l (no n) = a .all k (omega arith)
 

@@ -18,7 +18,7 @@ use Rattle.bits.specs.declared.Found.{Found}
 use Rattle.bits.specs.declared.Found.the-variants.{At, Nothing}
 use Rattle.bits.proofs.Store.{bit-at-lt}
 use Rattle.book.specs.Format.{step-limit}
-use Rattle.judge.specs.Inner.{In, FirstUntaken, ArcIn, Stuck, CycleIn, Copied}
+use Rattle.judge.specs.Inner.{InSet, FirstUntaken, ArcIn, Stuck, CycleIn, Copied}
 
 -- ---- lists by their elements
 
@@ -214,7 +214,7 @@ module _ (arc taken : List ℕ) (n : ℕ) (st : Stuck arc taken n) (trail seen :
       none : NoColumn (difference (bit-at arc v) (bit-at taken 0))
       none = subst (First (difference (bit-at arc v) (bit-at taken 0))) ef so
 
-      source : (x : ℕ) → x < row-bits → bit-at arc v x ≡ 1 → In taken x
+      source : (x : ℕ) → x < row-bits → bit-at arc v x ≡ 1 → InSet taken x
       source x h e = omega (arith, none .none x h, bit-at-lt taken 0 x)
 
   pub never-long : (cycle cycle′ : List ℕ) (r : ℕ) → step-limit ≤ len → CycleIn arc n cycle cycle′ r

@@ -17,13 +17,13 @@ use Rattle.judge.specs.declared.Judgement.{Judgement}
 use Rattle.judge.specs.declared.Turns.{Turns}
 
 -- the place p is in the set
-abbrev pub In : List ℕ → ℕ → Type 0
-In set p = bit-at set 0 p ≡ 1
+abbrev pub InSet : List ℕ → ℕ → Type 0
+InSet set p = bit-at set 0 p ≡ 1
 
 -- p is not taken, and the sources of its arcs are all taken: theory's `Ready`, read off the tables
 pub record ReadyIn (arc taken : List ℕ) (p : ℕ) : Type 0 where
   pub untaken : bit-at taken 0 p ≡ 0
-  pub sources : (x : ℕ) → x < row-bits → bit-at arc p x ≡ 1 → In taken x
+  pub sources : (x : ℕ) → x < row-bits → bit-at arc p x ≡ 1 → InSet taken x
 
 pub record NoneReady (arc taken : List ℕ) (n : ℕ) : Type 0 where
   pub none : (k : ℕ) → k < n → ¬ ReadyIn arc taken k
@@ -39,7 +39,7 @@ FirstReady arc taken n Nothing = NoneReady arc taken n
 
 -- every place below n is taken
 pub record AllTaken (taken : List ℕ) (n : ℕ) : Type 0 where
-  pub all : (k : ℕ) → k < n → In taken k
+  pub all : (k : ℕ) → k < n → InSet taken k
 
 -- p is the smallest place that is not taken, or n
 pub record FirstUntaken (taken : List ℕ) (n p : ℕ) : Type 0 where
@@ -55,8 +55,8 @@ pub record Stored (history : List ℕ) (n : ℕ) : Type 0 where
 -- l is a greedy order of h as far as it goes, and `taken` its places
 pub record TakenAs (conflict : ℕ → ℕ → ℕ → ℕ → Bool) (unit : ℕ → ℕ → ℕ → ℕ) (h l taken : List ℕ) : Type 0 where
   pub greedy : Greedy conflict unit h l
-  pub sound : (p : ℕ) → p < length h → In taken p → Taken h l p
-  pub complete : (p : ℕ) → p < length h → Taken h l p → In taken p
+  pub sound : (p : ℕ) → p < length h → InSet taken p → Taken h l p
+  pub complete : (p : ℕ) → p < length h → Taken h l p → InSet taken p
 
 -- the turns as far as they go, of every conflict and unit whose arcs the table marks
 pub record TurnsTaken (history : List ℕ) (n : ℕ) (arc : List ℕ) (r : Turns) : Type 0 where

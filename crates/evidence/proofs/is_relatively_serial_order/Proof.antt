@@ -19,8 +19,8 @@ returns c =
     let v = d .before .before .before .pre in
     not-equivalent _ v _ (d .dependences .ensures) _ _ (e .equivalent-by .ensures) (not-true _ (c .if1 .taken))
 
-with-history-requires : tie.Need-with-history-requires
-with-history-requires c κs =
+with-order-requires : tie.Need-with-order-requires
+with-order-requires c κs =
     let e = c .before in
     let d = e .before .before .before .before in
     let v = d .before .before .before .pre in
@@ -31,14 +31,14 @@ is-relatively-serial-requires c κs =
     let e = c .before .before in
     let d = e .before .before .before .before in
     let v = d .before .before .before .pre in
-    reordered-valid _ v _ (d .dependences .ensures) _ _ (e .equivalent-by .ensures) (not-false _ (c .before .if1 .left)) _ (c .with-history .ensures)
+    reordered-valid _ v _ (d .dependences .ensures) _ _ (e .equivalent-by .ensures) (not-false _ (c .before .if1 .left)) _ (c .with-order .ensures)
 
 returns-2 : tie.Need-returns-2
 returns-2 c =
     let e = c .before .before .before in
     let d = e .before .before .before .before in
     let v = d .before .before .before .pre in
-    order-answer _ v _ (d .dependences .ensures) _ _ (e .equivalent-by .ensures) (not-false _ (c .before .before .if1 .left)) _ (c .before .with-history .ensures) _ (c .is-relatively-serial .ensures)
+    order-answer _ v _ (d .dependences .ensures) _ _ (e .equivalent-by .ensures) (not-false _ (c .before .before .if1 .left)) _ (c .before .with-order .ensures) _ (c .is-relatively-serial .ensures)
 
 pub is-relatively-serial-order-spec : {M : Type 1} → statement M
 is-relatively-serial-order-spec =
@@ -47,6 +47,6 @@ is-relatively-serial-order-spec =
     dependences-requires
     equivalent-by-requires
     returns
-    with-history-requires
+    with-order-requires
     is-relatively-serial-requires
     returns-2)

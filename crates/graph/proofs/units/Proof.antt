@@ -4,8 +4,8 @@ use borrow.Author.Needs.{needs}
 use Rattle.graph.proofs.units.Statement.{statement}
 use Rattle.graph.proofs.units.Tie as tie
 
-number-requires : tie.Need-number-requires
-number-requires c κs = search book-history
+number-places-requires : tie.Need-number-places-requires
+number-places-requires c κs = search book-history
 
 unit-firsts-requires : tie.Need-unit-firsts-requires
 unit-firsts-requires c κs = (search book-history, search needs)
@@ -17,4 +17,4 @@ returns : tie.Need-returns
 returns c = search book-units
 
 pub units-spec : {M : Type 1} → statement M
-units-spec = tie.close (tie.spec number-requires unit-firsts-requires unit-lasts-requires returns)
+units-spec = tie.close (tie.spec number-places-requires unit-firsts-requires unit-lasts-requires returns)

@@ -5,8 +5,8 @@ use lib.ListN.{length, take}
 use Rattle.book.specs.Format.{run-limit}
 use Rattle.graph.proofs.Numbering.{NumberedBelow, numbered-none, number-fits, number-index, number-more, numbered-all}
 use borrow.Author.Needs.{needs}
-use Rattle.graph.proofs.number.Statement.{statement}
-use Rattle.graph.proofs.number.Tie as tie
+use Rattle.graph.proofs.number_places.Statement.{statement}
+use Rattle.graph.proofs.number_places.Tie as tie
 
 abbrev Inv-loop : tie.InvT-loop
 Inv-loop hist n ordinals₀ places₀ counts₀ p₀ ordinals places counts p = (length counts ≡ run-limit) × NumberedBelow (take n hist) ordinals places counts n p
@@ -65,8 +65,8 @@ loop-again c = (search needs, search number-more)
 returns : tie.Need-returns Inv-loop μ-loop
 returns c = search numbered-all
 
-pub number-spec : {M : Type 1} → statement M
-number-spec =
+pub number-places-spec : {M : Type 1} → statement M
+number-places-spec =
     tie.close
     (tie.spec
     Inv-loop

@@ -7,8 +7,8 @@ use borrow.Author.Needs.{needs}
 use Rattle.evidence.specs.Inner.{with-array}
 use Rattle.judge.proofs.Copying.{Copying, copying-none, copying-next}
 use Rattle.evidence.proofs.HistoryLaws.{copied-whole}
-use Rattle.evidence.proofs.with_history.Statement.{statement}
-use Rattle.evidence.proofs.with_history.Tie as tie
+use Rattle.evidence.proofs.with_order.Statement.{statement}
+use Rattle.evidence.proofs.with_order.Tie as tie
 
 abbrev Inv-loop : tie.InvT-loop
 Inv-loop b l history₀ i₀ i-end history i = (i-end ≡ length l) × Copying l (b .history) history i-end i
@@ -37,8 +37,8 @@ loop-again c = let w = c .before .before .loop .inv in (w .0, copying-next _ _ _
 returns : tie.Need-returns Inv-loop μ-loop
 returns c = ap (with-array (c .before .before .before .args .b)) (copied-whole _ _ _ _ _ (c .before .loop .inv .0) (c .before .loop .inv .1) (c .loop-test .left))
 
-pub with-history-spec : {M : Type 1} → statement M
-with-history-spec =
+pub with-order-spec : {M : Type 1} → statement M
+with-order-spec =
     tie.close
     (tie.spec
     Inv-loop
