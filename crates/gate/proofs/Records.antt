@@ -32,11 +32,11 @@ use Rattle.judge.specs.declared.Verdict.the-variants.{Refused as JudgeRefused, 
 use Rattle.gate.specs.Plain.{step, withdraw, In, insert, Eligible, Refusal, IsTangled, place, PlainCall, step-refused, step-tangled, step-kept, withdraw-refused, withdraws}
 use Rattle.gate.specs.Plain.{not-declared as plain-not-declared, was-withdrawn as plain-was-withdrawn, all-kept as plain-all-kept}
 use Rattle.gate.specs.Gate.{book-of, state-of, Sound, opening-answer, opened-book, OpenedAs, CalledAs}
-use Rattle.gate.specs.Inner.{EligibleIn, RefusalIn, not-declared, was-withdrawn, all-kept, Stands, StepLeft, Passes}
+use Rattle.gate.specs.Inner.{EligibleIn, RefusalIn, not-declared, was-withdrawn, all-kept, EligibilityIn, StepLeft, Passes}
 use Rattle.gate.specs.declared.Gate.{Gate}
 use Rattle.gate.specs.declared.Reply.the-variants.{Place, Withdrawn, Refused}
-use Rattle.gate.specs.declared.Standing.{Standing}
-use Rattle.gate.specs.declared.Standing.the-variants.{Eligible as IsEligible, Refused as IsRefused}
+use Rattle.gate.specs.declared.Eligibility.{Eligibility}
+use Rattle.gate.specs.declared.Eligibility.the-variants.{Eligible as IsEligible, Refused as IsRefused}
 
 -- ---- the book without its history: its fields are the empty book's there
 
@@ -233,7 +233,7 @@ module _ (g : Gate) (r i : ℕ) (y : Sound g) (e : i ≡ r) where
       → ¬ IsTangled (book-of g) (state-of g) r → PlainCall (book-of g) (state-of g) (step r) (place n) (record { kept = c .history; withdrawn = marked 0 (g .withdrawn) })
   kept-of n c p q o s = rw (p, q) (step-kept o s)
 
-  module _ (t : Standing) (w : Stands (g .book .runs) (g .book .lens) (g .book .dones) (g .withdrawn) i t) where
+  module _ (t : Eligibility) (w : EligibilityIn (g .book .runs) (g .book .lens) (g .book .dones) (g .withdrawn) i t) where
     pub step-refuses : (cause : Cause) → t ≡ IsRefused cause → CalledAs g (step r) (Refused cause) g
     step-refuses cause q = record { plain = step-refused (refusal-of (rw q at w)); book = refl; sound = y }
 

@@ -20,8 +20,8 @@ use Rattle.gate.specs.Replay.{answer-bytes, answers-bytes}
 use Rattle.gate.specs.declared.Gate.{Gate}
 use Rattle.gate.specs.declared.Reply.{Reply}
 use Rattle.gate.specs.declared.Reply.the-variants.{Place}
-use Rattle.gate.specs.declared.Standing.{Standing}
-use Rattle.gate.specs.declared.Standing.the-variants.{Eligible, Refused}
+use Rattle.gate.specs.declared.Eligibility.{Eligibility}
+use Rattle.gate.specs.declared.Eligibility.the-variants.{Eligible, Refused}
 use Rattle.gate.specs.declared.AnswerBytes.{AnswerBytes}
 
 -- 20, 21 and 22 read off the tables
@@ -36,9 +36,9 @@ module _ (runs : ℕ) (lens dones flags : List ℕ) (i : ℕ) where
     was-withdrawn : i < runs → ¬ (getD flags i 0 ≡ 0) → RefusalIn WasWithdrawn
     all-kept : i < runs → getD flags i 0 ≡ 0 → getD lens i 0 ≤ getD dones i 0 → RefusalIn AllKept
 
-  abbrev pub Stands : Standing → Type 0
-  Stands Eligible = EligibleIn
-  Stands (Refused cause) = RefusalIn cause
+  abbrev pub EligibilityIn : Eligibility → Type 0
+  EligibilityIn Eligible = EligibleIn
+  EligibilityIn (Refused cause) = RefusalIn cause
 
 -- run r has a step left
 pub record StepLeft (b : Book) (r : ℕ) : Type 0 where

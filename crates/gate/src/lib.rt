@@ -8,7 +8,7 @@ ghost use Rattle.writer.specs.Render.{with-history};
 ghost use Rattle.gate.specs.Plain.{step as step-call, withdraw as withdraw-call};
 ghost use Rattle.gate.specs.Gate.{Sound, OpenedAs, CalledAs};
 ghost use Rattle.gate.specs.Replay.{call-of, calls-of, bad-at, Replays};
-ghost use Rattle.gate.specs.Inner.{Stands, StepLeft, Passes, Low, BytesOf, AnswersRoom, Plays};
+ghost use Rattle.gate.specs.Inner.{EligibilityIn, StepLeft, Passes, Low, BytesOf, AnswersRoom, Plays};
 use book::Answer;
 use book::Book;
 use book::Cause;
@@ -70,31 +70,31 @@ pub fn open(s: &[u8]) -> Opened
 }
 
 // Whether a call for a run is refused by 20, 21 or 22.
-enum Standing {
+enum Eligibility {
     Eligible,
     Refused(Cause),
 }
 
-fn standing_of<'a>(
+fn eligibility_of<'a>(
     runs: usize,
     lens: &'a [u8; Book::RUNS],
     dones: &'a [u8; Book::RUNS],
     withdrawn: &'a [u8; Book::RUNS],
     i: usize,
-) -> Standing
+) -> Eligibility
     requires { ⌜ runs ≤ run-limit ⌝ }
-    ensures { λ r. ⌜ Stands runs (now (lens .entry)) (now (dones .entry)) (now (withdrawn .entry)) i r ⌝ }
+    ensures { λ r. ⌜ EligibilityIn runs (now (lens .entry)) (now (dones .entry)) (now (withdrawn .entry)) i r ⌝ }
 {
     if i >= runs {
-        return Standing::Refused(Cause::NotDeclared);
+        return Eligibility::Refused(Cause::NotDeclared);
     }
     if withdrawn[i] != 0 {
-        return Standing::Refused(Cause::Withdrawn);
+        return Eligibility::Refused(Cause::Withdrawn);
     }
     if dones[i] >= lens[i] {
-        return Standing::Refused(Cause::AllKept);
+        return Eligibility::Refused(Cause::AllKept);
     }
-    Standing::Eligible
+    Eligibility::Eligible
 }
 
 // The book with one more step of run r done.
@@ -135,14 +135,14 @@ fn step_value(g: Gate, r: u8) -> Called
     let b = g.book;
     let withdrawn = g.withdrawn;
     let i = book::wide(r);
-    match standing_of(b.runs, &b.lens, &b.dones, &withdrawn, i) {
-        Standing::Refused(cause) => {
+    match eligibility_of(b.runs, &b.lens, &b.dones, &withdrawn, i) {
+        Eligibility::Refused(cause) => {
             return Called {
                 answer: Reply::Refused(cause),
                 gate: g,
             };
         }
-        Standing::Eligible => {
+        Eligibility::Eligible => {
             let place = b.done;
             let longer = with_step(b, r);
             if passes(longer) {
@@ -170,14 +170,14 @@ fn withdraw_value(g: Gate, r: u8) -> Called
     let b = g.book;
     let withdrawn = g.withdrawn;
     let i = book::wide(r);
-    match standing_of(b.runs, &b.lens, &b.dones, &withdrawn, i) {
-        Standing::Refused(cause) => {
+    match eligibility_of(b.runs, &b.lens, &b.dones, &withdrawn, i) {
+        Eligibility::Refused(cause) => {
             return Called {
                 answer: Reply::Refused(cause),
                 gate: g,
             };
         }
-        Standing::Eligible => {
+        Eligibility::Eligible => {
             let mut h = g;
             h.withdrawn[i] = 1;
             return Called {

@@ -16,7 +16,7 @@ use Rattle.theory.proofs.Steps.{unit-refl, unit-sym}
 use Rattle.book.specs.Format.{run-limit, run-step-limit, step-limit}
 use Rattle.graph.specs.Units.{units-size, Each, Kept}
 use Rattle.book.specs.Book.{run-cuts}
-use Rattle.graph.specs.Tables.{places-size, HistoryOf, Numbering, Counts, CutsOf, EachBy, RowRoom, RowSet, by-flag, inherited}
+use Rattle.graph.specs.Tables.{places-size, HistoryOf, Numbering, Counts, CutsOf, EachBy, RowRoom, RowSet, by-flag, copied-row}
 use Rattle.graph.proofs.UnitSteps.{first-from, last-from}
 use Rattle.graph.proofs.Counting.{low, below-next, flag-none, flag-some, hist-length, hist-run}
 
@@ -38,15 +38,15 @@ row-more t u p o x v w i hp l e = record {
     at k (inl z) = rw z (getD-set-same u (p * run-limit + o) x 0 (omega arith) ∙ e)
     at k (inr j) = getD-set-other u (p * run-limit + o) (p * run-limit + k) x 0 (λ z. omega arith) ∙ w .here k j
 
-pub own-more : (t u : List ℕ) (p o : ℕ) → RowSet t u p (λ _. p) o → o < run-limit → p < step-limit → length u ≡ units-size → RowSet t (set u (p * run-limit + o) p) p (λ _. p) (o + 1)
-own-more t u p o w i hp l = row-more t u p o p (λ _. p) w i hp l refl
+pub set-row-more : (t u : List ℕ) (p o : ℕ) → RowSet t u p (λ _. p) o → o < run-limit → p < step-limit → length u ≡ units-size → RowSet t (set u (p * run-limit + o) p) p (λ _. p) (o + 1)
+set-row-more t u p o w i hp l = row-more t u p o p (λ _. p) w i hp l refl
 
-module _ (cuts : List ℕ) (at : ℕ) (t : List ℕ) (p from : ℕ) (u : List ℕ) (o : ℕ) (w : RowSet t u p (inherited cuts at t p from) o) (i : o < run-limit) (r : RowRoom at p from) (l : length u ≡ units-size) (y : List ℕ) where
-  pub inherit-same : getD cuts (at + o) 0 ≡ 0 → y ≡ set u (p * run-limit + o) (getD u (from * run-limit + o) 0) → RowSet t y p (inherited cuts at t p from) (o + 1)
-  inherit-same z e = rw e (row-more t u p o (getD u (from * run-limit + o) 0) (inherited cuts at t p from) w i (r .to-row) l (w .others from o i (r .apart) ∙ sym (flag-none (getD cuts (at + o) 0) (getD t (from * run-limit + o) 0) p z)))
+module _ (cuts : List ℕ) (at : ℕ) (t : List ℕ) (p from : ℕ) (u : List ℕ) (o : ℕ) (w : RowSet t u p (copied-row cuts at t p from) o) (i : o < run-limit) (r : RowRoom at p from) (l : length u ≡ units-size) (y : List ℕ) where
+  pub copy-row-same : getD cuts (at + o) 0 ≡ 0 → y ≡ set u (p * run-limit + o) (getD u (from * run-limit + o) 0) → RowSet t y p (copied-row cuts at t p from) (o + 1)
+  copy-row-same z e = rw e (row-more t u p o (getD u (from * run-limit + o) 0) (copied-row cuts at t p from) w i (r .to-row) l (w .others from o i (r .apart) ∙ sym (flag-none (getD cuts (at + o) 0) (getD t (from * run-limit + o) 0) p z)))
 
-  pub inherit-own : (getD cuts (at + o) 0 ≡ 0 → ⊥) → y ≡ set u (p * run-limit + o) p → RowSet t y p (inherited cuts at t p from) (o + 1)
-  inherit-own n e = rw e (row-more t u p o p (inherited cuts at t p from) w i (r .to-row) l (sym (flag-some (getD cuts (at + o) 0) (getD t (from * run-limit + o) 0) p n)))
+  pub copy-row-own : (getD cuts (at + o) 0 ≡ 0 → ⊥) → y ≡ set u (p * run-limit + o) p → RowSet t y p (copied-row cuts at t p from) (o + 1)
+  copy-row-own n e = rw e (row-more t u p o p (copied-row cuts at t p from) w i (r .to-row) l (sym (flag-some (getD cuts (at + o) 0) (getD t (from * run-limit + o) 0) p n)))
 
 -- ---- a table filled row by row
 
@@ -241,10 +241,10 @@ module _ (hist ordinals places : List ℕ) (n : ℕ) (hs : HistoryOf hist n) (nb
           apart = λ e. omega (arith, arc .before);
         }
 
-        pub firsts-inherit : (cuts t u y : List ℕ) → EachBy FirstOf cuts (take n hist) 0 p t → RowSet t u p (inherited cuts (r * run-cuts + i * run-limit) t p from) run-limit → y ≡ u → EachBy FirstOf cuts (take n hist) 0 (p + 1) y
-        firsts-inherit cuts t u y w g e = rw e (record { of = λ unit cs. each-up (w .of unit cs) g (row unit cs) refl })
+        pub firsts-copy-row : (cuts t u y : List ℕ) → EachBy FirstOf cuts (take n hist) 0 p t → RowSet t u p (copied-row cuts (r * run-cuts + i * run-limit) t p from) run-limit → y ≡ u → EachBy FirstOf cuts (take n hist) 0 (p + 1) y
+        firsts-copy-row cuts t u y w g e = rw e (record { of = λ unit cs. each-up (w .of unit cs) g (row unit cs) refl })
           where
-            row : (unit : ℕ → ℕ → ℕ → ℕ) → CutsOf unit cuts → (o : ℕ) → o < run-limit → FirstOf unit (take n hist) o p (inherited cuts (r * run-cuts + i * run-limit) t p from o)
+            row : (unit : ℕ → ℕ → ℕ → ℕ) → CutsOf unit cuts → (o : ℕ) → o < run-limit → FirstOf unit (take n hist) o p (copied-row cuts (r * run-cuts + i * run-limit) t p from o)
             row unit cs o ho = rw (is-run p r i ip er ei, is-ordinal p r i ip er ei) at
                 (first-next unit cuts cs (take n hist) o ho from p arc (omega (arith, is-ordinal p r i ip er ei, below p r i ip er ei, hs .few r)) (getD t (from * run-limit + o) 0)
                 (w .of unit cs .at from o (omega arith) (arc .before) ho))
@@ -291,10 +291,10 @@ module _ (hist ordinals places : List ℕ) (n : ℕ) (hs : HistoryOf hist n) (nb
           apart = λ e. omega (arith, after .before);
         }
 
-        pub lasts-inherit : (cuts t u : List ℕ) → EachBy LastOf cuts (take n hist) p n t → RowSet t u (p - 1) (inherited cuts (r * run-cuts + (i + 1) * run-limit) t (p - 1) from) run-limit → EachBy LastOf cuts (take n hist) (p - 1) n u
-        lasts-inherit cuts t u w g = record { of = λ unit cs. each-down (w .of unit cs) g (row unit cs) pos refl }
+        pub lasts-copy-row : (cuts t u : List ℕ) → EachBy LastOf cuts (take n hist) p n t → RowSet t u (p - 1) (copied-row cuts (r * run-cuts + (i + 1) * run-limit) t (p - 1) from) run-limit → EachBy LastOf cuts (take n hist) (p - 1) n u
+        lasts-copy-row cuts t u w g = record { of = λ unit cs. each-down (w .of unit cs) g (row unit cs) pos refl }
           where
-            row : (unit : ℕ → ℕ → ℕ → ℕ) → CutsOf unit cuts → (o : ℕ) → o < run-limit → LastOf unit (take n hist) o (p - 1) (inherited cuts (r * run-cuts + (i + 1) * run-limit) t (p - 1) from o)
+            row : (unit : ℕ → ℕ → ℕ → ℕ) → CutsOf unit cuts → (o : ℕ) → o < run-limit → LastOf unit (take n hist) o (p - 1) (copied-row cuts (r * run-cuts + (i + 1) * run-limit) t (p - 1) from o)
             row unit cs o ho = rw (f-run ∙ is-run (p - 1) r i jp er ei, f-ordinal) at
                 (last-next unit cuts cs (take n hist) o ho (p - 1) from after (omega (arith, f-ordinal, in-run, hs .few r)) (getD t (from * run-limit + o) 0)
                 (w .of unit cs .at from o (omega (arith, after .before)) (omega (arith, f-inside, hist-length hs)) ho))

@@ -105,5 +105,5 @@ by-flag zero a b = a
 by-flag (suc n) a b = b
 
 -- of each run o, what stands in t at `from`, or p where there is a cut
-abbrev pub inherited : List ℕ → ℕ → List ℕ → ℕ → ℕ → ℕ → ℕ
-inherited cuts at t p from o = by-flag (getD cuts (at + o) 0) (getD t (from * run-limit + o) 0) p
+abbrev pub copied-row : List ℕ → ℕ → List ℕ → ℕ → ℕ → ℕ → ℕ
+copied-row cuts at t p from o = by-flag (getD cuts (at + o) 0) (getD t (from * run-limit + o) 0) p

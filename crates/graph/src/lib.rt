@@ -17,7 +17,7 @@ ghost use Rattle.graph.specs.Marks.{Marks};
 ghost use Rattle.graph.specs.Units.{units-size, Kept, UnitTables};
 ghost use Rattle.graph.specs.Dependence.{StepsRead, StepRead};
 ghost use Rattle.graph.specs.Tables.{places-size, Small, HistoryOf, Declared, NumberAt, Starts, StepsRoom, StepsByPlace, Link, Fresh};
-ghost use Rattle.graph.specs.Tables.{Numbering, Counts, EachBy, RowRoom, RowSet, inherited};
+ghost use Rattle.graph.specs.Tables.{Numbering, Counts, EachBy, RowRoom, RowSet, copied-row};
 ghost use Rattle.graph.specs.Arcs.{ArcBy, ArcByPlaces, InRun, TablesOf, GainedBy, ArcRows, ArcInput, Rowed};
 ghost use Rattle.bits.specs.Table.{bit-at, intersection};
 ghost use Rattle.bits.specs.Last.{LastAt};
@@ -254,7 +254,7 @@ fn number_places(
 }
 
 // Sets the row of p to p itself.
-fn own(t: &mut Units, p: usize)
+fn set_row(t: &mut Units, p: usize)
     requires { ⌜ p < step-limit ⌝ }
     ensures { λ r. ⌜ RowSet (now (t .entry)) (now (t .exit)) p (λ o. p) run-limit ⌝ }
 {
@@ -267,9 +267,9 @@ fn own(t: &mut Units, p: usize)
 }
 
 // Sets the row of p to the row of the step next to it, but for the runs that see a cut between the two to p itself.
-fn inherit(cuts: &[u8; Book::CUTS_SIZE], at: usize, t: &mut Units, p: usize, from: usize)
+fn copy_row(cuts: &[u8; Book::CUTS_SIZE], at: usize, t: &mut Units, p: usize, from: usize)
     requires { ⌜ RowRoom at p from ⌝ }
-    ensures { λ r. ⌜ RowSet (now (t .entry)) (now (t .exit)) p (inherited (now (cuts .entry)) at (now (t .entry)) p from) run-limit ⌝ }
+    ensures { λ r. ⌜ RowSet (now (t .entry)) (now (t .exit)) p (copied-row (now (cuts .entry)) at (now (t .entry)) p from) run-limit ⌝ }
 {
     let mut o = 0;
     while o < Book::RUNS {
@@ -300,10 +300,10 @@ fn unit_firsts(
         let r = run_of(hist, p);
         let i = book::wide(ordinals[p]);
         if i == 0 {
-            own(t, p);
+            set_row(t, p);
         } else {
             let from = book::wide(places[r * Book::RUN_STEPS + i - 1]);
-            inherit(cuts, r * Book::RUN_CUTS + i * Book::RUNS, t, p, from);
+            copy_row(cuts, r * Book::RUN_CUTS + i * Book::RUNS, t, p, from);
         }
         p += 1;
     }
@@ -329,9 +329,9 @@ fn unit_lasts(
         let i = book::wide(ordinals[p]) + 1;
         if i < book::wide(counts[r]) {
             let from = book::wide(places[r * Book::RUN_STEPS + i]);
-            inherit(cuts, r * Book::RUN_CUTS + i * Book::RUNS, t, p, from);
+            copy_row(cuts, r * Book::RUN_CUTS + i * Book::RUNS, t, p, from);
         } else {
-            own(t, p);
+            set_row(t, p);
         }
     }
 }

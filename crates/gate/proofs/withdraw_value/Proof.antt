@@ -7,8 +7,8 @@ use Rattle.gate.proofs.withdraw_value.Tie as tie
 wide-requires : tie.Need-wide-requires
 wide-requires c κs = search needs
 
-standing-of-requires : tie.Need-standing-of-requires
-standing-of-requires c κs = search needs
+eligibility-of-requires : tie.Need-eligibility-of-requires
+eligibility-of-requires c κs = search needs
 
 enum-known-cause : tie.Need-enum-known-cause
 enum-known-cause c = search needs
@@ -30,7 +30,7 @@ withdraw-value-spec =
     tie.close
     (tie.spec
     wide-requires
-    standing-of-requires
+    eligibility-of-requires
     enum-known-cause
     returns
     enum-told

@@ -5,7 +5,7 @@ use lib.ListN.{take}
 use Rattle.theory.specs.Graph.{FirstOf}
 use Rattle.graph.specs.Tables.{EachBy}
 use Rattle.graph.specs.Units.{Kept}
-use Rattle.graph.proofs.UnitRows.{firsts-none, firsts-all, firsts-own, firsts-inherit, first-index, first-rows, kept-none, kept-row}
+use Rattle.graph.proofs.UnitRows.{firsts-none, firsts-all, firsts-own, firsts-copy-row, first-index, first-rows, kept-none, kept-row}
 use borrow.Author.Needs.{needs}
 use Rattle.graph.proofs.unit_firsts.Statement.{statement}
 use Rattle.graph.proofs.unit_firsts.Tie as tie
@@ -28,8 +28,8 @@ element-copy-out-wide c = search needs
 wide-requires : tie.Need-wide-requires Inv-loop μ-loop
 wide-requires c κs = search needs
 
-own-requires : tie.Need-own-requires Inv-loop μ-loop
-own-requires c κs = search needs
+set-row-requires : tie.Need-set-row-requires Inv-loop μ-loop
+set-row-requires c κs = search needs
 
 mul-wide : tie.Need-mul-wide Inv-loop μ-loop
 mul-wide c = search needs
@@ -46,17 +46,17 @@ element-copy-out-wide-2 c = search first-index
 wide-requires-2 : tie.Need-wide-requires-2 Inv-loop μ-loop
 wide-requires-2 c κs = search needs
 
-mul-inherit : tie.Need-mul-inherit Inv-loop μ-loop
-mul-inherit c = search needs
+mul-copy-row : tie.Need-mul-copy-row Inv-loop μ-loop
+mul-copy-row c = search needs
 
-mul-inherit-2 : tie.Need-mul-inherit-2 Inv-loop μ-loop
-mul-inherit-2 c = search needs
+mul-copy-row-2 : tie.Need-mul-copy-row-2 Inv-loop μ-loop
+mul-copy-row-2 c = search needs
 
-add-inherit : tie.Need-add-inherit Inv-loop μ-loop
-add-inherit c = search needs
+add-copy-row : tie.Need-add-copy-row Inv-loop μ-loop
+add-copy-row c = search needs
 
-inherit-requires : tie.Need-inherit-requires Inv-loop μ-loop
-inherit-requires c κs = search first-rows
+copy-row-requires : tie.Need-copy-row-requires Inv-loop μ-loop
+copy-row-requires c κs = search first-rows
 
 add-p : tie.Need-add-p Inv-loop μ-loop
 add-p c = search needs
@@ -65,7 +65,7 @@ loop-less : tie.Need-loop-less Inv-loop μ-loop
 loop-less c = search needs
 
 loop-again : tie.Need-loop-again Inv-loop μ-loop
-loop-again c = (search needs, ⊎-elim (λ w. search firsts-own) (λ w. search firsts-inherit) (c .if1 .came), ⊎-elim (λ w. search kept-row) (λ w. search kept-row) (c .if1 .came))
+loop-again c = (search needs, ⊎-elim (λ w. search firsts-own) (λ w. search firsts-copy-row) (c .if1 .came), ⊎-elim (λ w. search kept-row) (λ w. search kept-row) (c .if1 .came))
 
 returns : tie.Need-returns Inv-loop μ-loop
 returns c = (search firsts-all, search needs)
@@ -80,16 +80,16 @@ unit-firsts-spec =
     run-of-requires
     element-copy-out-wide
     wide-requires
-    own-requires
+    set-row-requires
     mul-wide
     add-wide
     sub-wide
     element-copy-out-wide-2
     wide-requires-2
-    mul-inherit
-    mul-inherit-2
-    add-inherit
-    inherit-requires
+    mul-copy-row
+    mul-copy-row-2
+    add-copy-row
+    copy-row-requires
     add-p
     loop-less
     loop-again

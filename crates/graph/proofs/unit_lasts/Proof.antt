@@ -5,7 +5,7 @@ use lib.ListN.{take}
 use Rattle.theory.specs.Graph.{LastOf}
 use Rattle.graph.specs.Tables.{EachBy}
 use Rattle.graph.specs.Units.{Kept}
-use Rattle.graph.proofs.UnitRows.{lasts-none, lasts-all, lasts-own, lasts-inherit, last-index, last-rows, kept-none, kept-down}
+use Rattle.graph.proofs.UnitRows.{lasts-none, lasts-all, lasts-own, lasts-copy-row, last-index, last-rows, kept-none, kept-down}
 use borrow.Author.Needs.{needs}
 use Rattle.graph.proofs.unit_lasts.Statement.{statement}
 use Rattle.graph.proofs.unit_lasts.Tie as tie
@@ -52,26 +52,26 @@ element-copy-out-wide-3 c = search (last-index, arith)
 wide-requires-3 : tie.Need-wide-requires-3 Inv-loop μ-loop
 wide-requires-3 c κs = search needs
 
-mul-inherit : tie.Need-mul-inherit Inv-loop μ-loop
-mul-inherit c = search needs
+mul-copy-row : tie.Need-mul-copy-row Inv-loop μ-loop
+mul-copy-row c = search needs
 
-mul-inherit-2 : tie.Need-mul-inherit-2 Inv-loop μ-loop
-mul-inherit-2 c = search needs
+mul-copy-row-2 : tie.Need-mul-copy-row-2 Inv-loop μ-loop
+mul-copy-row-2 c = search needs
 
-add-inherit : tie.Need-add-inherit Inv-loop μ-loop
-add-inherit c = search needs
+add-copy-row : tie.Need-add-copy-row Inv-loop μ-loop
+add-copy-row c = search needs
 
-inherit-requires : tie.Need-inherit-requires Inv-loop μ-loop
-inherit-requires c κs = search (last-rows, arith)
+copy-row-requires : tie.Need-copy-row-requires Inv-loop μ-loop
+copy-row-requires c κs = search (last-rows, arith)
 
 loop-less : tie.Need-loop-less Inv-loop μ-loop
 loop-less c = search needs
 
 loop-again : tie.Need-loop-again Inv-loop μ-loop
-loop-again c = (search needs, search (lasts-inherit, arith), search kept-down)
+loop-again c = (search needs, search (lasts-copy-row, arith), search kept-down)
 
-own-requires : tie.Need-own-requires Inv-loop μ-loop
-own-requires c κs = search needs
+set-row-requires : tie.Need-set-row-requires Inv-loop μ-loop
+set-row-requires c κs = search needs
 
 loop-less-2 : tie.Need-loop-less-2 Inv-loop μ-loop
 loop-less-2 c = search needs
@@ -100,13 +100,13 @@ unit-lasts-spec =
     add-wide
     element-copy-out-wide-3
     wide-requires-3
-    mul-inherit
-    mul-inherit-2
-    add-inherit
-    inherit-requires
+    mul-copy-row
+    mul-copy-row-2
+    add-copy-row
+    copy-row-requires
     loop-less
     loop-again
-    own-requires
+    set-row-requires
     loop-less-2
     loop-again-2
     returns)

@@ -1,8 +1,8 @@
--- `standing_of` is right: its tests are 20, 21 and 22 read off the tables, in that order.
+-- `eligibility_of` is right: its tests are 20, 21 and 22 read off the tables, in that order.
 use Rattle.gate.specs.Inner.{not-declared, was-withdrawn, all-kept}
 use borrow.Author.Needs.{needs}
-use Rattle.gate.proofs.standing_of.Statement.{statement}
-use Rattle.gate.proofs.standing_of.Tie as tie
+use Rattle.gate.proofs.eligibility_of.Statement.{statement}
+use Rattle.gate.proofs.eligibility_of.Tie as tie
 
 returns : tie.Need-returns
 returns c = not-declared (search needs)
@@ -25,8 +25,8 @@ returns-3 c = all-kept (search needs) (search needs) (search needs)
 returns-4 : tie.Need-returns-4
 returns-4 c = search needs
 
-pub standing-of-spec : {M : Type 1} → statement M
-standing-of-spec =
+pub eligibility-of-spec : {M : Type 1} → statement M
+eligibility-of-spec =
     tie.close
     (tie.spec
     returns

@@ -2,10 +2,10 @@
 use Prim.Native.Nat.{_-_}
 use Rattle.book.specs.Format.{run-limit}
 use Rattle.graph.specs.Tables.{RowSet}
-use Rattle.graph.proofs.UnitRows.{row-none, own-more, row-end}
+use Rattle.graph.proofs.UnitRows.{row-none, set-row-more, row-end}
 use borrow.Author.Needs.{needs}
-use Rattle.graph.proofs.own.Statement.{statement}
-use Rattle.graph.proofs.own.Tie as tie
+use Rattle.graph.proofs.set_row.Statement.{statement}
+use Rattle.graph.proofs.set_row.Tie as tie
 
 abbrev Inv-loop : tie.InvT-loop
 Inv-loop t₀ p o₀ t o = RowSet t₀ t p (λ _. p) o
@@ -38,13 +38,13 @@ loop-less : tie.Need-loop-less Inv-loop μ-loop
 loop-less c = search needs
 
 loop-again : tie.Need-loop-again Inv-loop μ-loop
-loop-again c = search own-more
+loop-again c = search set-row-more
 
 returns : tie.Need-returns Inv-loop μ-loop
 returns c = search row-end
 
-pub own-spec : {M : Type 1} → statement M
-own-spec =
+pub set-row-spec : {M : Type 1} → statement M
+set-row-spec =
     tie.close
     (tie.spec
     Inv-loop

@@ -2,14 +2,14 @@
 use Prim.Native.Nat.{_-_}
 use mathlib.Core.Logic.{⊎-elim}
 use Rattle.book.specs.Format.{run-limit}
-use Rattle.graph.specs.Tables.{RowSet, inherited}
-use Rattle.graph.proofs.UnitRows.{row-none, inherit-same, inherit-own, row-end}
+use Rattle.graph.specs.Tables.{RowSet, copied-row}
+use Rattle.graph.proofs.UnitRows.{row-none, copy-row-same, copy-row-own, row-end}
 use borrow.Author.Needs.{needs}
-use Rattle.graph.proofs.inherit.Statement.{statement}
-use Rattle.graph.proofs.inherit.Tie as tie
+use Rattle.graph.proofs.copy_row.Statement.{statement}
+use Rattle.graph.proofs.copy_row.Tie as tie
 
 abbrev Inv-loop : tie.InvT-loop
-Inv-loop cuts at t₀ p from o₀ t o = RowSet t₀ t p (inherited cuts at t₀ p from) o
+Inv-loop cuts at t₀ p from o₀ t o = RowSet t₀ t p (copied-row cuts at t₀ p from) o
 
 abbrev μ-loop : tie.MeasureT-loop
 μ-loop cuts at t₀ p from o₀ t o = run-limit - o
@@ -63,13 +63,13 @@ loop-less : tie.Need-loop-less Inv-loop μ-loop
 loop-less c = search needs
 
 loop-again : tie.Need-loop-again Inv-loop μ-loop
-loop-again c = ⊎-elim (λ w. search inherit-same) (λ w. search inherit-own) (c .if1 .came)
+loop-again c = ⊎-elim (λ w. search copy-row-same) (λ w. search copy-row-own) (c .if1 .came)
 
 returns : tie.Need-returns Inv-loop μ-loop
 returns c = search row-end
 
-pub inherit-spec : {M : Type 1} → statement M
-inherit-spec =
+pub copy-row-spec : {M : Type 1} → statement M
+copy-row-spec =
     tie.close
     (tie.spec
     Inv-loop
