@@ -31,6 +31,7 @@ use Rattle.judge.specs.declared.Verdict.the-variants.{Passed, Tangled, Refused 
 use Rattle.judge.proofs.Uncut.{bytes-passed, uncut-passed}
 use Rattle.classes.specs.Reply.{RepliesTo}
 use Rattle.gate.specs.Gate.{opening-answer, opened-book}
+use Rattle.gate.specs.Replay.{played-by}
 use Rattle.gate.proofs.Unchanged.{refused-unchanged}
 use Rattle.gate.proofs.Chained.{demand-3 as gate-demand}
 use Rattle.claims.specs.Demands.{Demand1, Demand1Test, EveryJudgement, EveryListOfCalls}
@@ -78,6 +79,7 @@ demand-1 = record {
   opening-refused = λ s o cause place w e. (w .answer ∙ ap opening-answer e, w .book ∙ ap opened-book e, w .state);
   gate-refused = λ g h x cause w. w .plain;
   gate-kept = refused-unchanged;
+  replay-refused = λ s calls before after r cause place w e. w .played ∙ ap (λ (o : Outcome). played-by o calls (length before)) e;
   replay-kept = λ s calls before after r w n. w .refused-unchanged n .buffer;
 }
 

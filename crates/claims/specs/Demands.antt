@@ -34,7 +34,7 @@ use Rattle.gate.specs.Replay.{Replays}
 use Rattle.gate.specs.declared.Gate.{Gate}
 use Rattle.gate.specs.declared.Opened.{Opened}
 use Rattle.gate.specs.declared.Replayed.{Replayed}
-use Rattle.gate.specs.declared.Played.the-variants.{Done}
+use Rattle.gate.specs.declared.Played.the-variants.{Done, Refused as NotReplayed}
 use Rattle.gate.specs.declared.Reply.the-variants.{Refused as CallRefused}
 
 -- Demand 1. Nothing refused changes a buffer or the gate, and each refusal has the number and place in document 01: the cause and place of
@@ -58,6 +58,7 @@ pub record Demand1 : Type 0 where
   -- step and withdraw: the number is the plain gate's, and no byte of the record changes
   pub gate-refused : (g h : Gate) (x : Call) (cause : Cause) → CalledAs g x (CallRefused cause) h → PlainCall (book-of g) (state-of g) x (refused-by (number cause)) (state-of h)
   pub gate-kept : (g h : Gate) (x : Call) (cause : Cause) → Sound g → CalledAs g x (CallRefused cause) h → h ≡ g
+  pub replay-refused : (s calls before after : List ℕ) (r : Replayed) (cause : Cause) (place : ℕ) → Replays s calls before after r → read s ≡ refused cause place → r .played ≡ NotReplayed cause place
   pub replay-kept : (s calls before after : List ℕ) (r : Replayed) → Replays s calls before after r → ((n : ℕ) → r .played ≢ Done n) → after ≡ before
 
 -- Demand 1 of a class test, the order check, the cycle check or the arc test, which asks whether the contents have the property P: 1 to 11.
