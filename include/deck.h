@@ -5,19 +5,8 @@
    of stack. A buffer or a gate may overlap no other argument of the call. Calls may be made from several threads at once, on buffers and gates
    of their own.
 
-   `number` is 0 where the call was carried out, else the number of the refusal:
-      1  book over 16,384 bytes                      11  bytes after 45
-      2  byte that is no command                     12  the judge's order or cycle buffer under 128 bytes
-      3  book ends before 45 or inside operands      13  the writer's buffer shorter than the book
-      4  command out of its group's order            20  gate: run not declared
-      5  kind above 15, or a above b                 21  gate: run withdrawn
-      6  pair or triple not above the one before     22  gate: all steps of the run kept
-      7  wrong run                                   23  gate: tangled
-      8  17th run, 33rd step of a run, 129th step    24  replay: no call, or a cut-off one, at an offset of the list
-      9  j is 0, or not below the steps of r         25  replay: the buffer of answers under two bytes a call
-     10  48 for a run with no step left
-   `place` is the offset in the book at which 1 to 11 were found, the offset in the list of calls for 24, and 0 otherwise. A refused call
-   changes no byte of a buffer or a gate, but that a refused deck_open makes its gate one without runs. */
+   `number` is 0 where the call was carried out, else the number of the refusal. `place` is the offset in the book at which 1 to 11 were found, the
+   offset in the list of calls for 24, and 0 otherwise. A refused call changes no byte of a buffer or a gate. */
 #ifndef DECK_H
 #define DECK_H
 #include <stddef.h>
@@ -36,17 +25,39 @@ enum {
     DECK_BUFFER = DECK_STEPS /* the judge's buffers have at least so many bytes */
 };
 
+enum deck_number {
+    DECK_BOOK_TOO_LONG = 1, /* book over DECK_BOOK bytes */
+    DECK_NO_COMMAND = 2, /* byte that is no command */
+    DECK_ENDS_EARLY = 3, /* book ends before 45 or inside operands */
+    DECK_OUT_OF_ORDER = 4, /* command after a later group, or 53 before any 52 */
+    DECK_WRONG_KIND = 5, /* kind above 15, or a above b */
+    DECK_NOT_RISING = 6, /* pair or triple not above the one before */
+    DECK_WRONG_RUN = 7, /* 52 not the next run; 42 or 48 a run not declared; 42 a run as seen by itself */
+    DECK_TOO_MANY = 8, /* 17th run, 33rd step of a run, 129th step */
+    DECK_WRONG_CUT = 9, /* cut after step 0, or not before the last step */
+    DECK_NO_STEP_LEFT = 10, /* 48 for a run with no step left */
+    DECK_BYTES_AFTER_END = 11, /* bytes after 45 */
+    DECK_JUDGE_BUFFER_SHORT = 12, /* the judge's order or cycle buffer under DECK_BUFFER bytes */
+    DECK_WRITER_BUFFER_SHORT = 13, /* the writer's buffer shorter than the book */
+    DECK_GATE_NOT_DECLARED = 20, /* gate: run not declared */
+    DECK_GATE_WITHDRAWN = 21, /* gate: run withdrawn */
+    DECK_GATE_ALL_KEPT = 22, /* gate: all steps of the run kept */
+    DECK_GATE_TANGLED = 23, /* gate: tangled */
+    DECK_NO_CALL = 24, /* replay: no call, or a cut-off one, at an offset of the list */
+    DECK_ANSWERS_SHORT = 25, /* replay: the buffer of answers under two bytes a call */
+};
+
 enum deck_verdict { DECK_REFUSED = 0, DECK_PASSED = 1, DECK_TANGLED = 2 };
 
 typedef struct {
-    uint64_t number;
+    uint64_t number; /* 0, or an enum deck_number */
     uint64_t place;
     uint64_t verdict; /* an enum deck_verdict */
     uint64_t count; /* passed: the done steps; tangled: the length of the cycle; refused: 0 */
 } deck_judgement;
 
 typedef struct {
-    uint64_t number;
+    uint64_t number; /* 0, or an enum deck_number */
     uint64_t place;
     uint64_t value; /* what the call answers; 0 where it was refused */
 } deck_answer;
@@ -76,27 +87,37 @@ deck_answer deck_arc(const uint8_t *book, size_t book_len, size_t from, size_t t
 /* Writes the book anew from what was read of it: its bytes to the front of `out`, all other bytes unchanged. The value is its length. */
 deck_answer deck_write(const uint8_t *book, size_t book_len, uint8_t *out, size_t out_len);
 
-/* A gate, as deck_open makes it. Programs may read it; only the calls below may write to it, and a call takes only a gate that deck_open made
+/* A gate, as deck_open hands it back. Programs may read it; only the calls below may write to it, and a call takes only a gate that deck_open made
    and those calls updated. It holds no pointer, so a copy of it is a gate of its own. */
 typedef struct {
-    uint8_t pairs[DECK_KINDS * DECK_KINDS]; /* 1 at a * 16 + b for each listed pair of kinds a, b */
-    uint8_t cuts[DECK_RUNS * DECK_RUN_STEPS * DECK_RUNS]; /* 1 at r * 512 + j * 16 + o for each cut in run r after its j-th step as seen by run o */
-    uint8_t kinds[DECK_STEPS]; /* of each step, run after run */
-    uint16_t positions[DECK_STEPS]; /* of each step, run after run */
-    uint8_t steps_of[DECK_RUNS]; /* the number of steps of each run */
-    uint8_t kept_of[DECK_RUNS]; /* the number of kept steps of each run */
+    uint8_t pairs[DECK_KINDS * DECK_KINDS]; /* 1 at a * DECK_KINDS + b for each listed pair of kinds a, b */
+    uint8_t cuts[DECK_RUNS * DECK_RUN_STEPS * DECK_RUNS]; /* 1 at (r * DECK_RUN_STEPS + j) * DECK_RUNS + o for each cut in run r after its j-th step
+                                                             as seen by run o */
+    uint32_t steps[DECK_STEPS]; /* run after run, each step's kind * 65536 + position */
+    uint8_t lengths[DECK_RUNS]; /* the number of steps of each run */
+    uint8_t counts[DECK_RUNS]; /* the number of kept steps of each run */
     uint8_t kept[DECK_STEPS]; /* the kept list: run numbers, kept_count of them */
-    uint64_t runs; /* the number of runs */
-    uint64_t steps; /* the number of steps */
+    uint64_t declared; /* the number of runs */
+    uint64_t total; /* the number of steps */
     uint64_t kept_count;
     uint8_t withdrawn[DECK_RUNS]; /* 1 for each withdrawn run, else 0 */
 } deck_gate;
 
-enum { DECK_GATE_SIZE = 9032 }; /* sizeof (deck_gate), with no padding */
+typedef struct {
+    uint64_t number; /* 0, or an enum deck_number */
+    uint64_t place;
+    deck_gate gate; /* without runs where the book was refused */
+} deck_opened;
 
-/* Opens a gate over the book, whose own history plays no part: no step is kept, no run withdrawn. Refused by 1 to 11, and then the gate has no
-   runs. Either way all bytes of the gate are written, whatever they were before. The value is 0. */
-deck_answer deck_open(const uint8_t *book, size_t book_len, deck_gate *gate);
+#ifdef __cplusplus
+static_assert
+#else
+_Static_assert
+#endif
+    (sizeof(deck_gate) == 9160 && offsetof(deck_gate, withdrawn) == 9144 && sizeof(deck_opened) == 9176, "no padding");
+
+/* Opens a gate over the book, whose own history plays no part: no step is kept, no run withdrawn. Refused by 1 to 11. */
+deck_opened deck_open(const uint8_t *book, size_t book_len);
 
 /* Steps a run: refused by 20, 21, 22, 23 in that order; else the run joins the end of the kept list, and the value is its place there. */
 deck_answer deck_step(deck_gate *gate, uint8_t run);

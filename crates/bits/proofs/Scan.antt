@@ -7,9 +7,10 @@ use native.Mathlib.Omega.{arith}
 use lib.Count.{trailingZeros}
 use mathlib.Core.List.{List}
 use lib.ListN.{getD}
-use Rattle.bits.specs.Table.{row-words, row-bits, bit, bit-at, intersection, difference, Within}
+use Rattle.bits.specs.Table.{row-words, row-bits, bit, bit-at, intersection, difference, Subset}
 use Rattle.bits.specs.First.{FirstAt, NoColumn}
-use Rattle.bits.specs.Last.{BitLength, LastAt}
+use Rattle.bits.specs.Last.{LastAt}
+use Rattle.bits.specs.inner.Words.{BitLength}
 use Rattle.bits.proofs.Word.{trailing-at, trailing-below}
 use Rattle.bits.proofs.Store.{at-column, in-words}
 
@@ -101,13 +102,13 @@ module _ (t mask : List ℕ) (row k b : ℕ) (n : NoneAbove (intersection (bit-a
 -- ---- a set within another
 
 module _ {f g : ℕ → ℕ} (f-lt : (c : ℕ) → f c < 2) (g-lt : (c : ℕ) → g c < 2) where
-  pub outside-found : {c : ℕ} → FirstAt (difference f g) c → Within f g false
+  pub outside-found : {c : ℕ} → FirstAt (difference f g) c → Subset f g false
   outside-found {c} a = record {
     sound = λ e. absurd (true≢false (sym e));
     complete = λ all. absurd (omega (arith, a .here, f-lt c, all c (a .in-row) (omega (arith, a .here, f-lt c))));
   }
 
-  pub outside-none : NoColumn (difference f g) → Within f g true
+  pub outside-none : NoColumn (difference f g) → Subset f g true
   outside-none n = record {
     sound = λ e c h one. omega (arith, n .none c h, g-lt c);
     complete = λ all. refl;

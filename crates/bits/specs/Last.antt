@@ -1,16 +1,10 @@
 -- The last column of a set.
 use mathlib.Core.Path.{_≡_}
-use Prim.Native.Nat.{ℕ, _-_, _≤_, _<_}
+use Prim.Native.Nat.{ℕ, _<_}
 use Rattle.bits.specs.Table.{row-bits}
 use Rattle.bits.specs.First.{NoColumn}
 use Rattle.bits.specs.declared.Found.{Found}
 use Rattle.bits.specs.declared.Found.the-variants.{At, Nothing}
-
--- of the 64 bits f, n - 1 is the last, or n is 0 and there is none
-pub record BitLength (f : ℕ → ℕ) (n : ℕ) : Type 0 where
-  pub in-word : n ≤ 64
-  pub here : 0 < n → f (n - 1) ≡ 1
-  pub after : (j : ℕ) → n ≤ j → j < 64 → f j ≡ 0
 
 -- c is the last column of f
 pub record LastAt (f : ℕ → ℕ) (c : ℕ) : Type 0 where

@@ -54,6 +54,6 @@ pub record RowCopied (t : List ℕ) (row : ℕ) (m : List ℕ) : Type 0 where
   pub same : (c : ℕ) → c < row-bits → bit-at m 0 c ≡ bit-at t row c
 
 -- answer says whether every column of f is one of g
-pub record Within (f g : ℕ → ℕ) (answer : Bool) : Type 0 where
+pub record Subset (f g : ℕ → ℕ) (answer : Bool) : Type 0 where
   pub sound : answer ≡ true → (c : ℕ) → c < row-bits → f c ≡ 1 → g c ≡ 1
   pub complete : ((c : ℕ) → c < row-bits → f c ≡ 1 → g c ≡ 1) → answer ≡ true

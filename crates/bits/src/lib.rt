@@ -4,9 +4,10 @@ ghost use Prim.Native.Nat.{ℕ, _<_};
 ghost use lib.ListN.{length};
 ghost use lib.Dec.{eqb};
 ghost use Rattle.bits.specs.Table.{row-words, row-bits, rows, table-words, bit, bit-at};
-ghost use Rattle.bits.specs.Table.{union, intersection, difference, Marked, Replaced, RowCopied, Within};
+ghost use Rattle.bits.specs.Table.{union, intersection, difference, Marked, Replaced, RowCopied, Subset};
 ghost use Rattle.bits.specs.First.{First};
-ghost use Rattle.bits.specs.Last.{BitLength, Last};
+ghost use Rattle.bits.specs.Last.{Last};
+ghost use Rattle.bits.specs.inner.Words.{BitLength};
 
 // The number of words in a row. The other sizes follow from it.
 pub const ROW_WORDS: usize = 2;
@@ -117,7 +118,7 @@ pub fn first_outside(t: &Table, row: usize, mask: &Row) -> Found
 // Whether every marked column of the row is in the mask.
 pub fn within(t: &Table, row: usize, mask: &Row) -> bool
     requires { ⌜ row < rows ⌝ }
-    ensures { λ r. ⌜ Within (bit-at (now (t .entry)) row) (bit-at (now (mask .entry)) 0) r ⌝ }
+    ensures { λ r. ⌜ Subset (bit-at (now (t .entry)) row) (bit-at (now (mask .entry)) 0) r ⌝ }
 {
     match first_outside(t, row, mask) {
         Found::At(_) => false,

@@ -1,312 +1,272 @@
--- What a valid book means by its fields, and what each stored command adds to it.
-use Prim.Native.Nat.{ℕ, _+_, _-_, _*_, _/_, _%_, _≤_, _<_}
+-- What a valid book means by its tables, group by group, and what each stored command adds to it.
+use Prim.Native.Nat.{ℕ, suc, _+_, _-_, _*_, _≤_, _<_}
 use mathlib.Core.Path.{_≡_, refl, ap, sym, _∙_}
-use mathlib.Core.List.{List, [], _∷_, _++_}
+use mathlib.Core.List.{List, [], _∷_, _++_, map}
 use native.Mathlib.Omega.{arith}
 use native.Mathlib.Numerals.{add-one}
 use native.Mathlib.Decide.{ℕ-discrete}
 use borrow.Author.Tests.{eq-eqb, ne-eqb}
-use lib.ListN.{length, getD, take, set, length-set}
+use lib.ListN.{length, getD, take, set, length-set, length-map}
 use lib.Seq.{take-suc, length-take-le, getD-set-same, getD-set-other}
 use lib.Dec.{leb}
+use Rattle.theory.specs.Lists.{sum}
 use Rattle.theory.specs.History.{count}
-use Rattle.book.specs.Format.{sum, last, lengths, add-pair, add-run, add-step, add-cut, add-done, above-pair, above-cut}
-use Rattle.book.specs.Book.{marked, pair-of, cut-of, steps-of, lengths-of, history-of, contents-of, Valid, Represents}
-use Rattle.book.specs.Reader.{Next, RoomFlag, RoomStep, RoomDone}
+use Rattle.theory.specs.Deck.{Step}
+use Rattle.book.specs.Format.{kind-limit, position-limit, run-limit, run-step-limit, step-limit, pair, run, step, cut, done, effect, last, lengths, above-pair, above-cut}
+use Rattle.book.specs.Book.{pairs-size, cuts-size, run-cuts, code-limit, set-pairs, set-runs, set-cuts, set-history, flagged, pair-of, cut-of, step-coded, as-step, contents-of, Flags, RunsValid, HistoryValid, Valid, Represents}
+use Rattle.book.specs.inner.Room.{Next, RoomFlag, RoomStep, RoomDone}
+use Rattle.book.specs.declared.Step.{Step as StepValue}
 use Rattle.book.specs.declared.Book.{Book}
-use Rattle.book.proofs.Lists.{take-more, take-last, take-last-set, getD-front, last-snoc, sum-snoc, sum-set, sum-le, sum-lt, count-snoc, steps-snoc, length-steps, lengths-runs, length-lengths, runs-snoc, runs-more, map-snoc, marked-more, flags-set, column-set, column-more, above-pair-index, above-cut-index}
+use Rattle.theory.proofs.Lists.{take-more, take-last, take-last-set, getD-front, sum-snoc, sum-set, sum-le, sum-lt, count-snoc, map-snoc}
+use Rattle.book.proofs.Groups.{last-snoc, lengths-runs, length-lengths, runs-snoc, runs-more, flagged-more, flags-set, column-set, column-more, above-pair-index, above-cut-index}
+
+-- the codes of t steps
+module _ (ls ss : List ℕ) (d t : ℕ) (v : RunsValid ls ss d t) where
+  pub codes-long : length (map step-coded (take t ss)) ≡ t
+  codes-long = length-map (take t ss) step-coded ∙ length-take-le t ss (omega (arith, v .steps .long, v .few-steps))
+
+  lengths-last : 0 < d → take d ls ≡ take (d - 1) ls ++ getD ls (d - 1) 0 ∷ []
+  lengths-last h = take-last ls d h (omega (arith, v .lengths .long, v .few-runs))
+
+-- the counts of done steps beside the lengths of runs
+module _ (ls ss ns h : List ℕ) (d t k : ℕ) (v : RunsValid ls ss d t) (w : HistoryValid ls ns h k) where
+  counts-within : (r : ℕ) → getD ns r 0 ≤ getD (take d ls) r 0
+  counts-within r = rw (getD-front d ls (v .lengths .blank) r) (w .within r)
+
+  pub counts-few : k ≤ t
+  counts-few = omega (arith, sum-le ns (take d ls) counts-within, v .total, w .total)
+
+  -- a run that has a step left leaves one in all
+  pub count-below : (r : ℕ) → getD ns r 0 < getD ls r 0 → k < t
+  count-below r l = omega (arith, sum-lt ns (take d ls) r counts-within (rw (getD-front d ls (v .lengths .blank) r) l), v .total, w .total)
 
 -- the contents of a valid book, by its fields
 module _ (b : Book) (v : Valid b) where
-  pub kinds-long : length (take (b .steps) (b .kinds)) ≡ b .steps
-  kinds-long = length-take-le (b .steps) (b .kinds) (omega (arith, v .kinds .long, v .few-steps))
-
-  pub positions-long : length (take (b .steps) (b .positions)) ≡ b .steps
-  positions-long = length-take-le (b .steps) (b .positions) (omega (arith, v .positions .long, v .few-steps))
-
-  pub steps-long : length (steps-of b) ≡ b .steps
-  steps-long = length-steps (take (b .steps) (b .kinds)) (take (b .steps) (b .positions)) (kinds-long ∙ sym positions-long) ∙ kinds-long
-
-  pub lengths-are : lengths (contents-of b .runs) ≡ lengths-of b
+  pub lengths-are : lengths (contents-of b .runs) ≡ take (b .declared) (b .lengths)
   unfolding contents-of
-  lengths-are = lengths-runs (lengths-of b) (steps-of b) (omega (arith, steps-long, v .steps-sum))
+  lengths-are = lengths-runs (take (b .declared) (b .lengths)) (map step-coded (take (b .total) (b .steps))) (omega (arith, codes-long (b .lengths) (b .steps) (b .declared) (b .total) (v .runs), v .runs .total))
 
-  pub runs-are : length (contents-of b .runs) ≡ b .runs
-  runs-are = sym (length-lengths (contents-of b .runs)) ∙ ap length lengths-are ∙ length-take-le (b .runs) (b .lens) (omega (arith, v .lens .long, v .few-runs))
+  pub runs-are : length (contents-of b .runs) ≡ b .declared
+  runs-are = sym (length-lengths (contents-of b .runs)) ∙ ap length lengths-are ∙ length-take-le (b .declared) (b .lengths) (omega (arith, v .runs .lengths .long, v .runs .few-runs))
 
-  pub sum-is : sum (lengths (contents-of b .runs)) ≡ b .steps
-  sum-is = ap sum lengths-are ∙ v .steps-sum
+  pub sum-is : sum (lengths (contents-of b .runs)) ≡ b .total
+  sum-is = ap sum lengths-are ∙ v .runs .total
 
-  lengths-last : 0 < b .runs → lengths-of b ≡ take (b .runs - 1) (b .lens) ++ getD (b .lens) (b .runs - 1) 0 ∷ []
-  lengths-last h = take-last (b .lens) (b .runs) h (omega (arith, v .lens .long, v .few-runs))
+  pub last-is : 0 < b .declared → last (lengths (contents-of b .runs)) ≡ getD (b .lengths) (b .declared - 1) 0
+  last-is h = ap last (lengths-are ∙ lengths-last (b .lengths) (b .steps) (b .declared) (b .total) (v .runs) h) ∙ last-snoc (take (b .declared - 1) (b .lengths)) (getD (b .lengths) (b .declared - 1) 0)
 
-  pub last-is : 0 < b .runs → last (lengths (contents-of b .runs)) ≡ getD (b .lens) (b .runs - 1) 0
-  last-is h = ap last (lengths-are ∙ lengths-last h) ∙ last-snoc (take (b .runs - 1) (b .lens)) (getD (b .lens) (b .runs - 1) 0)
+  pub length-is : (r : ℕ) → getD (lengths (contents-of b .runs)) r 0 ≡ getD (b .lengths) r 0
+  length-is r = ap (λ (l : List ℕ). getD l r 0) lengths-are ∙ getD-front (b .declared) (b .lengths) (v .runs .lengths .blank) r
 
-  pub length-is : (r : ℕ) → getD (lengths (contents-of b .runs)) r 0 ≡ getD (b .lens) r 0
-  length-is r = ap (λ (l : List ℕ). getD l r 0) lengths-are ∙ getD-front (b .runs) (b .lens) (v .lens .blank) r
-
-  done-below : (r : ℕ) → getD (b .dones) r 0 ≤ getD (lengths-of b) r 0
-  done-below r = rw (getD-front (b .runs) (b .lens) (v .lens .blank) r) (v .done-within r)
-
-  pub history-is : contents-of b .history ≡ history-of b
+  pub history-is : contents-of b .history ≡ take (b .done) (b .history)
   unfolding contents-of
   history-is = refl
 
-  pub done-few : b .done ≤ b .steps
-  done-few = omega (arith, sum-le (b .dones) (lengths-of b) done-below, v .steps-sum, v .done-sum)
+  pub done-few : b .done ≤ b .total
+  done-few = counts-few (b .lengths) (b .steps) (b .counts) (b .history) (b .declared) (b .total) (b .done) (v .runs) (v .history)
+
+  -- no more steps are done than a history has room for
+  pub done-within : b .done ≤ step-limit
+  done-within = omega (arith, done-few, v .runs .few-steps)
 
   pub history-long : length (contents-of b .history) ≡ b .done
-  history-long = ap length history-is ∙ length-take-le (b .done) (b .history) (omega (arith, done-few, v .few-steps, v .history .long))
+  history-long = ap length history-is ∙ length-take-le (b .done) (b .history) (omega (arith, done-within, v .history .history .long))
 
-  pub count-is : (r : ℕ) → count (contents-of b .history) r ≡ getD (b .dones) r 0
+  pub count-is : (r : ℕ) → count (contents-of b .history) r ≡ getD (b .counts) r 0
   unfolding contents-of
-  count-is r = sym (v .done-count r)
+  count-is r = sym (v .history .counts r)
 
-  pub pair-above : (next x y : ℕ) → Next (b .pairs) next → y < 16 → above-pair (contents-of b .pairs) x y ≡ leb next (x * 16 + y)
+  pub pair-above : (next x y : ℕ) → Next (b .pairs) next → y < kind-limit → above-pair (contents-of b .pairs) (record { a = x; b = y }) ≡ leb next (x * kind-limit + y)
   unfolding contents-of
-  pair-above next x y n h = above-pair-index (marked 0 (b .pairs)) x y h ∙ rw (← n .behind)
+  pair-above next x y n h = above-pair-index (flagged 0 (b .pairs)) x y h ∙ rw (← n .last)
 
-  pub cut-above : (next r j o : ℕ) → Next (b .cuts) next → j < 32 → o < 16 → above-cut (contents-of b .cuts) r j o ≡ leb next (r * 512 + j * 16 + o)
+  pub cut-above : (next r j o : ℕ) → Next (b .cuts) next → j < run-step-limit → o < run-limit
+      → above-cut (contents-of b .cuts) (record { of-run = r; after = j; seen-by = o }) ≡ leb next (r * run-cuts + j * run-limit + o)
   unfolding contents-of
-  cut-above next r j o n h k = above-cut-index (marked 0 (b .cuts)) r j o h k ∙ rw (← n .behind)
+  cut-above next r j o n h k = above-cut-index (flagged 0 (b .cuts)) r j o h k ∙ rw (← n .last)
+
+-- a valid book with another group
+valid-pairs : (b : Book) (ps : List ℕ) → Valid b → Flags pairs-size ps → Valid (set-pairs b ps)
+valid-pairs b ps v f = record { pairs = f; runs = v .runs; cuts = v .cuts; history = v .history }
+
+pub valid-cuts : (b : Book) (cs : List ℕ) → Valid b → Flags cuts-size cs → Valid (set-cuts b cs)
+valid-cuts b cs v f = record { pairs = v .pairs; runs = v .runs; cuts = f; history = v .history }
+
+valid-runs : (b : Book) (ls ss : List ℕ) (d t : ℕ) → Valid b → RunsValid ls ss d t → HistoryValid ls (b .counts) (b .history) (b .done) → Valid (set-runs b ls ss d t)
+valid-runs b ls ss d t v r h = record { pairs = v .pairs; runs = r; cuts = v .cuts; history = h }
+
+pub valid-history : (b : Book) (ns h : List ℕ) (k : ℕ) → Valid b → HistoryValid (b .lengths) ns h k → Valid (set-history b ns h k)
+valid-history b ns h k v w = record { pairs = v .pairs; runs = v .runs; cuts = v .cuts; history = w }
 
 -- a pair more
 abbrev pub with-pair : Book → ℕ → Book
-with-pair b i = record {
-  pairs = set (b .pairs) i 1;
-  cuts = b .cuts;
-  kinds = b .kinds;
-  positions = b .positions;
-  lens = b .lens;
-  dones = b .dones;
-  history = b .history;
-  runs = b .runs;
-  steps = b .steps;
-  done = b .done;
-}
+with-pair b i = set-pairs b (set (b .pairs) i 1)
 
-pub represents-pair : (b : Book) (next i : ℕ) → Valid b → Next (b .pairs) next → RoomFlag 256 next i → Represents (add-pair (contents-of b) (i / 16) (i % 16)) (with-pair b i)
+pub represents-pair : (b : Book) (next i : ℕ) → Valid b → Next (b .pairs) next → RoomFlag pairs-size next i → Represents (effect (pair (pair-of i)) (contents-of b)) (with-pair b i)
 unfolding contents-of
 represents-pair b next i v n m = record {
-  contents = rw (marked-more (b .pairs) next i n (m .rising) (omega (arith, m .low, v .pairs .long)), map-snoc pair-of (marked 0 (b .pairs)) i);
-  valid = record {
-    pairs = flags-set 256 (b .pairs) i (v .pairs);
-    cuts = v .cuts;
-    kinds = v .kinds;
-    positions = v .positions;
-    history = v .history;
-    lens = v .lens;
-    dones-long = v .dones-long;
-    few-runs = v .few-runs;
-    few-steps = v .few-steps;
-    steps-sum = v .steps-sum;
-    done-sum = v .done-sum;
-    done-count = v .done-count;
-    done-within = v .done-within;
-  };
+  contents = rw (flagged-more (b .pairs) next i n (m .rising) (omega (arith, m .low, v .pairs .long)), map-snoc pair-of (flagged 0 (b .pairs)) i);
+  valid = valid-pairs b _ v (flags-set pairs-size (b .pairs) i (v .pairs));
 }
 
 -- a cut more
 abbrev pub with-cut : Book → ℕ → Book
-with-cut b i = record {
-  pairs = b .pairs;
-  cuts = set (b .cuts) i 1;
-  kinds = b .kinds;
-  positions = b .positions;
-  lens = b .lens;
-  dones = b .dones;
-  history = b .history;
-  runs = b .runs;
-  steps = b .steps;
-  done = b .done;
-}
+with-cut b i = set-cuts b (set (b .cuts) i 1)
 
-pub represents-cut : (b : Book) (next i : ℕ) → Valid b → Next (b .cuts) next → RoomFlag 8192 next i → Represents (add-cut (contents-of b) (i / 512) (i % 512 / 16) (i % 16)) (with-cut b i)
+pub represents-cut : (b : Book) (next i : ℕ) → Valid b → Next (b .cuts) next → RoomFlag cuts-size next i → Represents (effect (cut (cut-of i)) (contents-of b)) (with-cut b i)
 unfolding contents-of
 represents-cut b next i v n m = record {
-  contents = rw (marked-more (b .cuts) next i n (m .rising) (omega (arith, m .low, v .cuts .long)), map-snoc cut-of (marked 0 (b .cuts)) i);
-  valid = record {
-    pairs = v .pairs;
-    cuts = flags-set 8192 (b .cuts) i (v .cuts);
-    kinds = v .kinds;
-    positions = v .positions;
-    history = v .history;
-    lens = v .lens;
-    dones-long = v .dones-long;
-    few-runs = v .few-runs;
-    few-steps = v .few-steps;
-    steps-sum = v .steps-sum;
-    done-sum = v .done-sum;
-    done-count = v .done-count;
-    done-within = v .done-within;
-  };
+  contents = rw (flagged-more (b .cuts) next i n (m .rising) (omega (arith, m .low, v .cuts .long)), map-snoc cut-of (flagged 0 (b .cuts)) i);
+  valid = valid-cuts b _ v (flags-set cuts-size (b .cuts) i (v .cuts));
 }
 
 -- a run more, without steps
 abbrev pub with-run : Book → Book
-with-run b = record {
-  pairs = b .pairs;
-  cuts = b .cuts;
-  kinds = b .kinds;
-  positions = b .positions;
-  lens = b .lens;
-  dones = b .dones;
-  history = b .history;
-  runs = b .runs + 1;
-  steps = b .steps;
-  done = b .done;
-}
+with-run b = set-runs b (b .lengths) (b .steps) (b .declared + 1) (b .total)
 
-module _ (b : Book) (v : Valid b) (h : b .runs < 16) where
-  lengths-run : lengths-of (with-run b) ≡ lengths-of b ++ 0 ∷ []
-  lengths-run = rw (add-one, take-suc (b .lens) (b .runs) 0 (omega (arith, v .lens .long)), v .lens .blank (b .runs) (omega arith))
+module _ (ls ss : List ℕ) (d t : ℕ) (v : RunsValid ls ss d t) (h : d < run-limit) where
+  lengths-run : take (d + 1) ls ≡ take d ls ++ 0 ∷ []
+  lengths-run = rw (add-one, take-suc ls d 0 (omega (arith, v .lengths .long)), v .lengths .blank d (omega arith))
 
-  pub represents-run : Represents (add-run (contents-of b)) (with-run b)
-  unfolding contents-of
-  represents-run = record {
-    contents = rw lengths-run (rw runs-snoc);
-    valid = record {
-      pairs = v .pairs;
-      cuts = v .cuts;
-      kinds = v .kinds;
-      positions = v .positions;
-      history = v .history;
-      lens = column-more 16 33 (b .runs) (b .lens) (b .runs + 1) (v .lens) (omega arith);
-      dones-long = v .dones-long;
-      few-runs = omega arith;
-      few-steps = v .few-steps;
-      steps-sum = ap sum lengths-run ∙ sum-snoc (lengths-of b) 0 ∙ omega (arith, v .steps-sum);
-      done-sum = v .done-sum;
-      done-count = v .done-count;
-      done-within = v .done-within;
-    };
+  runs-run : RunsValid ls ss (d + 1) t
+  runs-run = record {
+    lengths = column-more run-limit (suc run-step-limit) d ls (d + 1) (v .lengths) (omega arith);
+    steps = v .steps;
+    few-runs = omega arith;
+    few-steps = v .few-steps;
+    total = ap sum lengths-run ∙ sum-snoc (take d ls) 0 ∙ omega (arith, v .total);
   }
+
+pub represents-run : (b : Book) (r : ℕ) → Valid b → b .declared < run-limit → Represents (effect (run r) (contents-of b)) (with-run b)
+unfolding contents-of
+represents-run b r v h = record {
+  contents = rw (lengths-run (b .lengths) (b .steps) (b .declared) (b .total) (v .runs) h) (rw runs-snoc);
+  valid = valid-runs b _ _ _ _ v (runs-run (b .lengths) (b .steps) (b .declared) (b .total) (v .runs) h) (v .history);
+}
 
 -- a step more in the last run
-abbrev pub with-step : Book → ℕ → ℕ → Book
-with-step b k x = record {
-  pairs = b .pairs;
-  cuts = b .cuts;
-  kinds = set (b .kinds) (b .steps) k;
-  positions = set (b .positions) (b .steps) x;
-  lens = set (b .lens) (b .runs - 1) (getD (b .lens) (b .runs - 1) 0 + 1);
-  dones = b .dones;
-  history = b .history;
-  runs = b .runs;
-  steps = b .steps + 1;
-  done = b .done;
-}
+abbrev pub code-of : StepValue → ℕ
+code-of x = x .kind * position-limit + x .position
 
-module _ (b : Book) (k x : ℕ) (v : Valid b) (m : RoomStep b k x) where
+-- its code is that of the step
+coded-back : (x : StepValue) → x .position < position-limit → step-coded (code-of x) ≡ as-step x
+coded-back x h = same (omega arith) (omega arith)
+  where
+    same : {k k′ p p′ : ℕ} → k ≡ k′ → p ≡ p′ → _≡_ {A = Step} (record { kind = k; position = p }) (record { kind = k′; position = p′ })
+    same e f = rw (e, f)
+
+module _ (ls ss : List ℕ) (d t : ℕ) (x : StepValue) (v : RunsValid ls ss d t) (m : RoomStep ls d t x) where
   abbrev last-length : ℕ
-  last-length = getD (b .lens) (b .runs - 1) 0
+  last-length = getD ls (d - 1) 0
 
   abbrev lengths-before : List ℕ
-  lengths-before = take (b .runs - 1) (b .lens)
+  lengths-before = take (d - 1) ls
 
-  lengths-step : lengths-of (with-step b k x) ≡ lengths-before ++ (last-length + 1) ∷ []
-  lengths-step = take-last-set (b .lens) (b .runs) _ (m .declared) (omega (arith, v .lens .long, v .few-runs))
+  abbrev lengths-after : List ℕ
+  lengths-after = set ls (d - 1) (last-length + 1)
 
-  steps-step : steps-of (with-step b k x) ≡ steps-of b ++ record { kind = k; position = x } ∷ []
+  abbrev codes-after : List ℕ
+  codes-after = set ss t (code-of x)
+
+  lengths-step : take d lengths-after ≡ lengths-before ++ (last-length + 1) ∷ []
+  lengths-step = take-last-set ls d _ (m .declared) (omega (arith, v .lengths .long, v .few-runs))
+
+  steps-step : map step-coded (take (t + 1) codes-after) ≡ map step-coded (take t ss) ++ as-step x ∷ []
   steps-step =
-      let hk : b .steps < length (b .kinds) = omega (arith, v .kinds .long, m .few) in
-      let hp : b .steps < length (b .positions) = omega (arith, v .positions .long, m .few) in
-      rw (take-more (b .kinds) (b .steps) k hk, take-more (b .positions) (b .steps) x hp)
-      (steps-snoc (take (b .steps) (b .kinds)) (take (b .steps) (b .positions)) k x
-      (kinds-long b v ∙ sym (positions-long b v)))
+      ap (map step-coded) (take-more ss t (code-of x) (omega (arith, v .steps .long, m .few)))
+      ∙ map-snoc step-coded (take t ss) (code-of x)
+      ∙ ap (λ (y : Step). map step-coded (take t ss) ++ y ∷ []) (coded-back x (m .position-low))
 
-  sum-before : sum lengths-before + last-length ≡ b .steps
-  sum-before = sym (sum-snoc lengths-before last-length) ∙ ap sum (sym (lengths-last b v (m .declared))) ∙ v .steps-sum
+  sum-before : sum lengths-before + last-length ≡ t
+  sum-before = sym (sum-snoc lengths-before last-length) ∙ ap sum (sym (lengths-last ls ss d t v (m .declared))) ∙ v .total
 
-  within-step : (r : ℕ) → getD (b .dones) r 0 ≤ getD (set (b .lens) (b .runs - 1) (last-length + 1)) r 0
-  within-step r = go (ℕ-discrete r (b .runs - 1))
-    where
-      go : Dec (r ≡ b .runs - 1) → getD (b .dones) r 0 ≤ getD (set (b .lens) (b .runs - 1) (last-length + 1)) r 0
-      go (yes e) = rw (e, getD-set-same (b .lens) (b .runs - 1) (last-length + 1) 0 (omega (arith, v .lens .long, v .few-runs, m .declared))) (omega (arith, v .done-within (b .runs - 1)))
-      go (no n) = rw (getD-set-other (b .lens) (b .runs - 1) r (last-length + 1) 0 n) (v .done-within r)
-
-  pub represents-step : Represents (add-step (contents-of b) k x) (with-step b k x)
-  unfolding contents-of
-  represents-step = record {
-    contents = rw (lengths-step, steps-step, lengths-last b v (m .declared))
-        (rw (runs-more lengths-before last-length (steps-of b) (record { kind = k; position = x }) (sum-before ∙ sym (steps-long b v))));
-    valid = record {
-      pairs = v .pairs;
-      cuts = v .cuts;
-      kinds = column-set 128 16 (b .steps) (b .kinds) (b .steps) k (b .steps + 1) (v .kinds) (omega arith) (omega arith) (m .kind-low);
-      positions = column-set 128 65536 (b .steps) (b .positions) (b .steps) x (b .steps + 1) (v .positions) (omega arith) (omega arith) (m .position-low);
-      history = v .history;
-      lens = column-set 16 33 (b .runs) (b .lens) (b .runs - 1) (last-length + 1) (b .runs) (v .lens) (omega (arith, m .declared)) (omega arith) (omega (arith, m .short));
-      dones-long = v .dones-long;
-      few-runs = v .few-runs;
-      few-steps = omega (arith, m .few);
-      steps-sum = ap sum lengths-step ∙ sum-snoc lengths-before _ ∙ omega (arith, sum-before);
-      done-sum = v .done-sum;
-      done-count = v .done-count;
-      done-within = within-step;
-    };
+  runs-step : RunsValid lengths-after codes-after d (t + 1)
+  runs-step = record {
+    lengths = column-set run-limit (suc run-step-limit) d ls (d - 1) (last-length + 1) d (v .lengths) (omega (arith, m .declared)) (omega arith) (omega (arith, m .short));
+    steps = column-set step-limit code-limit t ss t (code-of x) (t + 1) (v .steps) (omega arith) (omega arith) (omega (arith, m .kind-low, m .position-low));
+    few-runs = v .few-runs;
+    few-steps = omega (arith, m .few);
+    total = ap sum lengths-step ∙ sum-snoc lengths-before _ ∙ omega (arith, sum-before);
   }
 
+  -- no run is shorter than it was
+  within-step : (n r : ℕ) → n ≤ getD ls r 0 → n ≤ getD lengths-after r 0
+  within-step n r l = go (ℕ-discrete r (d - 1))
+    where
+      go : Dec (r ≡ d - 1) → n ≤ getD lengths-after r 0
+      go (yes e) = rw (e, getD-set-same ls (d - 1) (last-length + 1) 0 (omega (arith, v .lengths .long, v .few-runs, m .declared))) (omega (arith, ap (λ (i : ℕ). getD ls i 0) e))
+      go (no n) = rw (getD-set-other ls (d - 1) r (last-length + 1) 0 n) l
+
+abbrev pub with-step : Book → StepValue → Book
+with-step b x = set-runs b (set (b .lengths) (b .declared - 1) (getD (b .lengths) (b .declared - 1) 0 + 1)) (set (b .steps) (b .total) (code-of x)) (b .declared) (b .total + 1)
+
+module _ (b : Book) (x : StepValue) (v : Valid b) (m : RoomStep (b .lengths) (b .declared) (b .total) x) where
+  pub represents-step : Represents (effect (step (as-step x)) (contents-of b)) (with-step b x)
+  unfolding contents-of
+  represents-step =
+      let ls = b .lengths in
+      let ss = b .steps in
+      let d = b .declared in
+      let t = b .total in
+      record {
+        contents = rw (lengths-step ls ss d t x (v .runs) m, steps-step ls ss d t x (v .runs) m, lengths-last ls ss d t (v .runs) (m .declared))
+            (rw (runs-more (take (d - 1) ls) (getD ls (d - 1) 0) (map step-coded (take t ss)) (as-step x) (sum-before ls ss d t x (v .runs) m ∙ sym (codes-long ls ss d t (v .runs)))));
+        valid = valid-runs b _ _ _ _ v (runs-step ls ss d t x (v .runs) m) (record {
+          history = v .history .history;
+          long = v .history .long;
+          total = v .history .total;
+          counts = v .history .counts;
+          within = λ r. within-step ls ss d t x (v .runs) m (getD (b .counts) r 0) r (v .history .within r);
+        });
+      }
+
 -- a step more done
+module _ (ls ns h : List ℕ) (k r : ℕ) (v : HistoryValid ls ns h k) (low : r < run-limit) (few : k < step-limit) (left : getD ns r 0 < getD ls r 0) where
+  abbrev counts-after : List ℕ
+  counts-after = set ns r (getD ns r 0 + 1)
+
+  pub history-done : take (k + 1) (set h k r) ≡ take k h ++ r ∷ []
+  history-done = take-more h k r (omega (arith, v .history .long))
+
+  counts-same : getD counts-after r 0 ≡ getD ns r 0 + 1
+  counts-same = getD-set-same ns r (getD ns r 0 + 1) 0 (omega (arith, v .long))
+
+  counts-other : (o : ℕ) → (o ≡ r → ⊥) → getD counts-after o 0 ≡ getD ns o 0
+  counts-other o n = getD-set-other ns r o (getD ns r 0 + 1) 0 n
+
+  counts-done : (o : ℕ) → Dec (o ≡ r) → getD counts-after o 0 ≡ count (take k h ++ r ∷ []) o
+  counts-done o (yes e) = rw (e, counts-same, count-snoc (take k h) r r, eq-eqb r r refl) (omega (arith, v .counts r))
+  counts-done o (no n) = rw (counts-other o n, count-snoc (take k h) r o, ne-eqb r o (λ e. n (sym e))) (v .counts o)
+
+  within-done : (o : ℕ) → Dec (o ≡ r) → getD counts-after o 0 ≤ getD ls o 0
+  within-done o (yes e) = rw (e, counts-same) (omega (arith, left))
+  within-done o (no n) = rw (counts-other o n) (v .within o)
+
+  pub history-more : HistoryValid ls counts-after (set h k r) (k + 1)
+  history-more = record {
+    history = column-set step-limit run-limit k h k r (k + 1) (v .history) (omega arith) (omega arith) low;
+    long = simp length-set (v .long);
+    total = sum-set ns r (omega (arith, v .long)) ∙ omega (arith, v .total);
+    counts = λ o. rw history-done (counts-done o (ℕ-discrete o r));
+    within = λ o. within-done o (ℕ-discrete o r);
+  }
+
 abbrev pub with-done : Book → ℕ → Book
-with-done b r = record {
-  pairs = b .pairs;
-  cuts = b .cuts;
-  kinds = b .kinds;
-  positions = b .positions;
-  lens = b .lens;
-  dones = set (b .dones) r (getD (b .dones) r 0 + 1);
-  history = set (b .history) (b .done) r;
-  runs = b .runs;
-  steps = b .steps;
-  done = b .done + 1;
-}
+with-done b r = set-history b (set (b .counts) r (getD (b .counts) r 0 + 1)) (set (b .history) (b .done) r) (b .done + 1)
 
-module _ (b : Book) (r : ℕ) (v : Valid b) (m : RoomDone b r) where
-  below-length : getD (b .dones) r 0 < getD (lengths-of b) r 0
-  below-length = rw (getD-front (b .runs) (b .lens) (v .lens .blank) r) (m .left)
+module _ (b : Book) (r : ℕ) (v : Valid b) (m : RoomDone (b .lengths) (b .counts) (b .declared) r) where
+  pub done-below-steps : b .done < b .total
+  done-below-steps = count-below (b .lengths) (b .steps) (b .counts) (b .history) (b .declared) (b .total) (b .done) (v .runs) (v .history) r (m .left)
 
-  pub done-below-steps : b .done < b .steps
-  done-below-steps = omega (arith, sum-lt (b .dones) (lengths-of b) r (done-below b v) below-length, v .steps-sum, v .done-sum)
+  run-low : r < run-limit
+  run-low = omega (arith, m .declared, v .runs .few-runs)
 
-  r-low : r < length (b .dones)
-  r-low = omega (arith, m .declared, v .few-runs, v .dones-long)
+  place-low : b .done < step-limit
+  place-low = omega (arith, done-below-steps, v .runs .few-steps)
 
-  history-done : history-of (with-done b r) ≡ history-of b ++ r ∷ []
-  history-done = take-more (b .history) (b .done) r (omega (arith, done-below-steps, v .few-steps, v .history .long))
-
-  within-done : (o : ℕ) → getD (set (b .dones) r (getD (b .dones) r 0 + 1)) o 0 ≤ getD (b .lens) o 0
-  within-done o = go (ℕ-discrete o r)
-    where
-      go : Dec (o ≡ r) → getD (set (b .dones) r (getD (b .dones) r 0 + 1)) o 0 ≤ getD (b .lens) o 0
-      go (yes e) = rw (e, getD-set-same (b .dones) r (getD (b .dones) r 0 + 1) 0 r-low) (omega (arith, m .left))
-      go (no n) = rw (getD-set-other (b .dones) r o (getD (b .dones) r 0 + 1) 0 n) (v .done-within o)
-
-  count-done : (o : ℕ) → getD (set (b .dones) r (getD (b .dones) r 0 + 1)) o 0 ≡ count (history-of b ++ r ∷ []) o
-  count-done o = go (ℕ-discrete o r)
-    where
-      go : Dec (o ≡ r) → getD (set (b .dones) r (getD (b .dones) r 0 + 1)) o 0 ≡ count (history-of b ++ r ∷ []) o
-      go (yes e) = rw (e, getD-set-same (b .dones) r (getD (b .dones) r 0 + 1) 0 r-low, count-snoc (history-of b) r r, eq-eqb r r refl) (omega (arith, v .done-count r))
-      go (no n) = rw (getD-set-other (b .dones) r o (getD (b .dones) r 0 + 1) 0 n, count-snoc (history-of b) r o, ne-eqb r o (λ e. n (sym e))) (v .done-count o)
-
-  pub represents-done : Represents (add-done (contents-of b) r) (with-done b r)
+  pub represents-done : Represents (effect (done r) (contents-of b)) (with-done b r)
   unfolding contents-of
   represents-done = record {
-    contents = rw history-done;
-    valid = record {
-      pairs = v .pairs;
-      cuts = v .cuts;
-      kinds = v .kinds;
-      positions = v .positions;
-      history = column-set 128 16 (b .done) (b .history) (b .done) r (b .done + 1) (v .history) (omega arith) (omega arith) (omega (arith, m .declared, v .few-runs));
-      lens = v .lens;
-      dones-long = simp length-set (v .dones-long);
-      few-runs = v .few-runs;
-      few-steps = v .few-steps;
-      steps-sum = v .steps-sum;
-      done-sum = sum-set (b .dones) r r-low ∙ omega (arith, v .done-sum);
-      done-count = λ o. rw history-done (count-done o);
-      done-within = within-done;
-    };
+    contents = rw (history-done (b .lengths) (b .counts) (b .history) (b .done) r (v .history) run-low place-low (m .left));
+    valid = valid-history b _ _ _ v (history-more (b .lengths) (b .counts) (b .history) (b .done) r (v .history) run-low place-low (m .left));
   }

@@ -1,22 +1,46 @@
--- What a `Book` means, which books are valid, and what the reader promises of the one that it hands back.
+-- What a `Book` means, which books are valid, group by group, and what the reader promises of the one that it hands back.
 use Prim.Native.Nat.{ℕ, suc, _*_, _/_, _%_, _≤_, _<_}
 use mathlib.Core.Path.{_≡_}
 use mathlib.Core.List.{List, [], _∷_, map}
 use lib.ListN.{length, getD, take, drop, replicate}
 use lib.Dec.{eqb}
+use Rattle.theory.specs.Lists.{sum}
 use Rattle.theory.specs.History.{count}
 use Rattle.theory.specs.Deck.{Pair, Step, Cut}
-use Rattle.book.specs.Format.{Contents, Outcome, refused, accepted, kind-limit, run-limit, run-step-limit, step-limit, pick, sum}
+use Rattle.book.specs.Format.{Contents, contents, Outcome, refused, accepted, kind-limit, position-limit, run-limit, run-step-limit, step-limit, length-limit, pick}
+use Rattle.book.specs.declared.Rules.{Rules}
 use Rattle.book.specs.declared.Cause.{Cause}
+use Rattle.book.specs.declared.Step.{Step as StepValue}
 use Rattle.book.specs.declared.Book.{Book}
 use Rattle.book.specs.declared.Answer.{Answer}
 use Rattle.book.specs.declared.Answer.the-variants.{Refused, Accepted}
 use Rattle.book.specs.declared.Reading.{Reading}
 
+-- the book of these tables and counts
+abbrev pub book-of-tables : List ℕ → List ℕ → List ℕ → List ℕ → List ℕ → List ℕ → ℕ → ℕ → ℕ → Book
+book-of-tables ps cs ss ls ns h d t k = record { pairs = ps; cuts = cs; steps = ss; lengths = ls; counts = ns; history = h; declared = d; total = t; done = k }
+
+-- the book with another group of tables
+abbrev pub set-pairs : Book → List ℕ → Book
+set-pairs b ps = book-of-tables ps (b .cuts) (b .steps) (b .lengths) (b .counts) (b .history) (b .declared) (b .total) (b .done)
+
+abbrev pub set-runs : Book → List ℕ → List ℕ → ℕ → ℕ → Book
+set-runs b ls ss d t = book-of-tables (b .pairs) (b .cuts) ss ls (b .counts) (b .history) d t (b .done)
+
+abbrev pub set-cuts : Book → List ℕ → Book
+set-cuts b cs = book-of-tables (b .pairs) cs (b .steps) (b .lengths) (b .counts) (b .history) (b .declared) (b .total) (b .done)
+
+abbrev pub set-history : Book → List ℕ → List ℕ → ℕ → Book
+set-history b ns h k = book-of-tables (b .pairs) (b .cuts) (b .steps) (b .lengths) ns h (b .declared) (b .total) k
+
+-- the book with other counts of runs, steps and done steps
+abbrev pub set-counts : Book → ℕ → ℕ → ℕ → Book
+set-counts b d t k = book-of-tables (b .pairs) (b .cuts) (b .steps) (b .lengths) (b .counts) (b .history) d t k
+
 -- the indices of what is not 0, where the first of the list has index i
-abbrev pub marked : ℕ → List ℕ → List ℕ
-marked i [] = []
-marked i (x ∷ xs) = pick (eqb x 0) (marked (suc i) xs) (i ∷ marked (suc i) xs)
+abbrev pub flagged : ℕ → List ℕ → List ℕ
+flagged i [] = []
+flagged i (x ∷ xs) = pick (eqb x 0) (flagged (suc i) xs) (i ∷ flagged (suc i) xs)
 
 -- the sizes of the tables of pairs and of cuts
 abbrev pub pairs-size : ℕ
@@ -29,41 +53,47 @@ cuts-size = run-limit * run-step-limit * run-limit
 abbrev pub run-cuts : ℕ
 run-cuts = run-step-limit * run-limit
 
--- the pair and the cut of an index
+-- the codes of steps are below this
+abbrev pub code-limit : ℕ
+code-limit = kind-limit * position-limit
+
+-- the pair and the cut of an index, and the step of a code
 abbrev pub pair-of : ℕ → Pair
 pair-of i = record { a = i / kind-limit; b = i % kind-limit }
 
 abbrev pub cut-of : ℕ → Cut
 cut-of i = record { of-run = i / run-cuts; after = i % run-cuts / run-limit; seen-by = i % run-limit }
 
--- steps of these kinds and positions
-abbrev pub steps-at : List ℕ → List ℕ → List Step
-steps-at [] ps = []
-steps-at (k ∷ ks) [] = []
-steps-at (k ∷ ks) (p ∷ ps) = record { kind = k; position = p } ∷ steps-at ks ps
+abbrev pub step-coded : ℕ → Step
+step-coded c = record { kind = c / position-limit; position = c % position-limit }
+
+-- the step that a value of the code's type is
+abbrev pub as-step : StepValue → Step
+as-step x = record { kind = x .kind; position = x .position }
 
 -- the steps divided into runs of these lengths
 abbrev pub runs-of-lengths : List ℕ → List Step → List (List Step)
 runs-of-lengths [] ss = []
 runs-of-lengths (n ∷ ns) ss = take n ss ∷ runs-of-lengths ns (drop n ss)
 
-abbrev pub steps-of : Book → List Step
-steps-of b = steps-at (take (b .steps) (b .kinds)) (take (b .steps) (b .positions))
+-- what the tables of each group mean
+abbrev pub pairs-of : List ℕ → List Pair
+pairs-of ps = map pair-of (flagged 0 ps)
 
-abbrev pub lengths-of : Book → List ℕ
-lengths-of b = take (b .runs) (b .lens)
+abbrev pub runs-of : List ℕ → List ℕ → ℕ → ℕ → List (List Step)
+runs-of ls ss d t = runs-of-lengths (take d ls) (map step-coded (take t ss))
 
-abbrev pub history-of : Book → List ℕ
-history-of b = take (b .done) (b .history)
+abbrev pub cuts-of : List ℕ → List Cut
+cuts-of cs = map cut-of (flagged 0 cs)
 
 -- what a book means
 unfoldable pub contents-of : Book → Contents
-contents-of b = record {
-  pairs = map pair-of (marked 0 (b .pairs));
-  runs = runs-of-lengths (lengths-of b) (steps-of b);
-  cuts = map cut-of (marked 0 (b .cuts));
-  history = history-of b;
-}
+contents-of b = contents (pairs-of (b .pairs)) (runs-of (b .lengths) (b .steps) (b .declared) (b .total)) (cuts-of (b .cuts)) (take (b .done) (b .history))
+
+-- the tables have room for all that the rules allow
+pub record Fitting (ρ : Rules) : Type 0 where
+  pub steps : ρ .steps ≤ step-limit
+  pub bytes : ρ .bytes ≤ length-limit
 
 -- n numbers, each 0 or 1
 pub record Flags (n : ℕ) (l : List ℕ) : Type 0 where
@@ -76,21 +106,28 @@ pub record Column (n limit end : ℕ) (l : List ℕ) : Type 0 where
   pub small : (i : ℕ) → getD l i 0 < limit
   pub blank : (i : ℕ) → end ≤ i → getD l i 0 ≡ 0
 
+-- d runs of these lengths, whose t steps have these codes
+pub record RunsValid (ls ss : List ℕ) (d t : ℕ) : Type 0 where
+  pub lengths : Column run-limit (suc run-step-limit) d ls
+  pub steps : Column step-limit code-limit t ss
+  pub few-runs : d ≤ run-limit
+  pub few-steps : t ≤ step-limit
+  pub total : sum (take d ls) ≡ t
+
+-- a history of k done steps, with the counts of each run's, of which no run has more than its length
+pub record HistoryValid (ls ns h : List ℕ) (k : ℕ) : Type 0 where
+  pub history : Column step-limit run-limit k h
+  pub long : length ns ≡ run-limit
+  pub total : sum ns ≡ k
+  pub counts : (r : ℕ) → getD ns r 0 ≡ count (take k h) r
+  pub within : (r : ℕ) → getD ns r 0 ≤ getD ls r 0
+
 -- a book whose tables have their sizes and ranges, are 0 behind their counts, and agree with each other. Every book that the reader hands back is one
 pub record Valid (b : Book) : Type 0 where
   pub pairs : Flags pairs-size (b .pairs)
+  pub runs : RunsValid (b .lengths) (b .steps) (b .declared) (b .total)
   pub cuts : Flags cuts-size (b .cuts)
-  pub kinds : Column step-limit kind-limit (b .steps) (b .kinds)
-  pub positions : Column step-limit 65536 (b .steps) (b .positions)
-  pub history : Column step-limit run-limit (b .done) (b .history)
-  pub lens : Column run-limit (suc run-step-limit) (b .runs) (b .lens)
-  pub dones-long : length (b .dones) ≡ run-limit
-  pub few-runs : b .runs ≤ run-limit
-  pub few-steps : b .steps ≤ step-limit
-  pub steps-sum : sum (lengths-of b) ≡ b .steps
-  pub done-sum : sum (b .dones) ≡ b .done
-  pub done-count : (r : ℕ) → getD (b .dones) r 0 ≡ count (history-of b) r
-  pub done-within : (r : ℕ) → getD (b .dones) r 0 ≤ getD (b .lens) r 0
+  pub history : HistoryValid (b .lengths) (b .counts) (b .history) (b .done)
 
 -- a valid book of these contents
 pub record Represents (d : Contents) (b : Book) : Type 0 where
@@ -99,18 +136,7 @@ pub record Represents (d : Contents) (b : Book) : Type 0 where
 
 -- the book without pairs, runs, cuts and history: every number is 0
 unfoldable pub empty-book : Book
-empty-book = record {
-  pairs = replicate pairs-size 0;
-  cuts = replicate cuts-size 0;
-  kinds = replicate step-limit 0;
-  positions = replicate step-limit 0;
-  lens = replicate run-limit 0;
-  dones = replicate run-limit 0;
-  history = replicate step-limit 0;
-  runs = 0;
-  steps = 0;
-  done = 0;
-}
+empty-book = book-of-tables (replicate pairs-size 0) (replicate cuts-size 0) (replicate step-limit 0) (replicate run-limit 0) (replicate run-limit 0) (replicate step-limit 0) 0 0 0
 
 abbrev pub outcome-by : Answer → Book → Outcome
 outcome-by (Refused cause place) b = refused cause place

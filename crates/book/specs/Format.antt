@@ -1,25 +1,45 @@
 -- The format of a deck book, as one function from a list of bytes to an outcome: refused with cause and place, or accepted with the
--- book's contents (document 01, "Deck book" and "When something is turned away"). Each command has a table of tests in document 01's
--- order, 2, 3, 4, 5, 7, 8, 9, 6, 10, then 11; the first that fails refuses.
-use Prim.Native.Nat.{ℕ, zero, suc, _+_, _-_, _*_, _<_}
+-- book's contents (document 01, "Deck book" and "When something is turned away"). Each command has its bytes, its effect and a table of
+-- tests in document 01's order, 2, 3, 4, 5, 7, 8, 9, 6, 10, then 11; the first that fails refuses. The format is over its rules: the limits of
+-- steps and bytes, and the commands that not every dialect has.
+use Prim.Native.Nat.{ℕ, zero, suc, _+_, _-_, _*_, _/_, _%_, _<_, _≤_}
 use mathlib.Core.List.{List, [], _∷_, _++_}
 use mathlib.Core.Bool.{Bool, true, false, not}
 use lib.ListN.{length, getD}
 use lib.Dec.{ltb, leb, eqb}
+use Rattle.theory.specs.Lists.{sum}
 use Rattle.theory.specs.History.{count}
 use Rattle.theory.specs.Deck.{Pair, Step, Cut}
+use Rattle.book.specs.declared.Rules.{Rules}
 use Rattle.book.specs.declared.Cause.{Cause}
 use Rattle.book.specs.declared.Cause.the-variants.{BookTooLong, NoCommand, EndsEarly, OutOfOrder, WrongKind, NotRising, WrongRun, TooManyRuns, RunTooLong, TooManySteps, WrongCut, NoStepLeft, BytesAfterEnd}
 
--- what a book holds: conflicting pairs of kinds, runs of steps, cuts, and the history as run numbers
+-- what a book holds, by its groups: conflicting pairs of kinds, runs of steps, cuts, and the history as run numbers
 pub record Contents : Type 0 where
   pub pairs : List Pair
   pub runs : List (List Step)
   pub cuts : List Cut
   pub history : List ℕ
 
+abbrev pub contents : List Pair → List (List Step) → List Cut → List ℕ → Contents
+contents ps rs cs h = record { pairs = ps; runs = rs; cuts = cs; history = h }
+
 abbrev pub nothing : Contents
-nothing = record { pairs = []; runs = []; cuts = []; history = [] }
+nothing = contents [] [] [] []
+
+-- the contents with another group
+abbrev pub with-pairs : Contents → List Pair → Contents
+with-pairs d ps = contents ps (d .runs) (d .cuts) (d .history)
+
+abbrev pub with-runs : Contents → List (List Step) → Contents
+with-runs d rs = contents (d .pairs) rs (d .cuts) (d .history)
+
+abbrev pub with-cuts : Contents → List Cut → Contents
+with-cuts d cs = contents (d .pairs) (d .runs) cs (d .history)
+
+-- the book with k as its history: one 48 for each number in k, in k's order, and no other; its other commands are the book's
+abbrev pub with-history : Contents → List ℕ → Contents
+with-history d k = contents (d .pairs) (d .runs) (d .cuts) k
 
 pub data Outcome : Type 0 where
   refused : Cause → ℕ → Outcome
@@ -28,6 +48,9 @@ pub data Outcome : Type 0 where
 -- the limits
 abbrev pub kind-limit : ℕ
 kind-limit = 16
+
+abbrev pub position-limit : ℕ
+position-limit = 65536
 
 abbrev pub run-limit : ℕ
 run-limit = 16
@@ -41,32 +64,9 @@ step-limit = 128
 abbrev pub length-limit : ℕ
 length-limit = 16384
 
--- how far a book has been read: the group of the last command (43 is group 0, 52 and 53 are 1, 42 is 2, 48 is 3), and the contents so far
-pub record ReadState : Type 0 where
-  pub group : ℕ
-  pub contents : Contents
-
--- what one command does: reading goes on at an offset with a state, or is over
-pub data Move : Type 0 where
-  on : ℕ → ReadState → Move
-  over : Outcome → Move
-
--- a test: what has to hold, and the cause of the refusal where it does not
-pub record Test : Type 0 where
-  pub holds : Bool
-  pub cause : Cause
-
-abbrev pub test : Bool → Cause → Test
-test b c = record { holds = b; cause = c }
-
-abbrev pub check : Bool → Cause → ℕ → Move → Move
-check true c at m = m
-check false c at m = over (refused c at)
-
--- the first test that fails refuses, and the place is the command's offset; else comes m
-abbrev pub checks : List Test → ℕ → Move → Move
-checks [] at m = m
-checks (t ∷ ts) at m = check (t .holds) (t .cause) at (checks ts at m)
+-- the rules of deck books
+abbrev pub deck-rules : Rules
+deck-rules = record { steps = step-limit; bytes = length-limit; cuts = true }
 
 abbrev pub pick : {A : Type 0} → Bool → A → A → A
 pick true a b = a
@@ -79,10 +79,6 @@ byte s i = getD s i 0
 abbrev pub Bytes : List ℕ → Type 0
 Bytes s = (i : ℕ) → getD s i 0 < 256
 
-abbrev pub sum : List ℕ → ℕ
-sum [] = 0
-sum (x ∷ xs) = x + sum xs
-
 abbrev pub last : List ℕ → ℕ
 last [] = 0
 last (x ∷ []) = x
@@ -93,121 +89,172 @@ abbrev pub lengths : List (List Step) → List ℕ
 lengths [] = []
 lengths (r ∷ rs) = length r ∷ lengths rs
 
--- 43, kinds a, b. Pairs rise strictly: the new pair is above the last, compared left to right
-abbrev pub above-pair : List Pair → ℕ → ℕ → Bool
-above-pair [] a b = true
-above-pair (p ∷ []) a b = pick (eqb (p .a) a) (ltb (p .b) b) (ltb (p .a) a)
-above-pair (p ∷ q ∷ qs) a b = above-pair (q ∷ qs) a b
+-- each run stands in k at most as often as it has steps; a run that is not declared has none, so that k's numbers are declared runs
+abbrev pub Allowed : List ℕ → Contents → Type 0
+Allowed k c = (r : ℕ) → count k r ≤ getD (lengths (c .runs)) r 0
 
-abbrev pub add-pair : Contents → ℕ → ℕ → Contents
-add-pair d x y = record { pairs = d .pairs ++ record { a = x; b = y } ∷ []; runs = d .runs; cuts = d .cuts; history = d .history }
+-- ---- commands
 
-unfoldable pub pair-tests : List ℕ → ℕ → ReadState → List Test
-pair-tests s at t =
-    test (leb 3 (length s - at)) EndsEarly
-    ∷ test (leb (t .group) 0) OutOfOrder
-    ∷ test (ltb (byte s (at + 2)) kind-limit) WrongKind
-    ∷ test (leb (byte s (at + 1)) (byte s (at + 2))) WrongKind
-    ∷ test (above-pair (t .contents .pairs) (byte s (at + 1)) (byte s (at + 2))) NotRising
-    ∷ []
+pub data Command : Type 0 where
+  pair : Pair → Command
+  run : ℕ → Command
+  step : Step → Command
+  cut : Cut → Command
+  done : ℕ → Command
 
-unfoldable pub pair-at : List ℕ → ℕ → ReadState → Move
-pair-at s at t = checks (pair-tests s at t) at
-    (on (at + 3) (record { group = 0; contents = add-pair (t .contents) (byte s (at + 1)) (byte s (at + 2)) }))
+-- 43, kinds a, b. 52, run r. 53, kind, position: two bytes, high first. 42, run r, number j, run o. 48, run r
+abbrev pub command-bytes : Command → List ℕ
+command-bytes (pair p) = 0x43 ∷ p .a ∷ p .b ∷ []
+command-bytes (run r) = 0x52 ∷ r ∷ []
+command-bytes (step x) = 0x53 ∷ x .kind ∷ x .position / 256 ∷ x .position % 256 ∷ []
+command-bytes (cut c) = 0x42 ∷ c .of-run ∷ c .after ∷ c .seen-by ∷ []
+command-bytes (done r) = 0x48 ∷ r ∷ []
 
--- 52, run r
-abbrev pub add-run : Contents → Contents
-add-run d = record { pairs = d .pairs; runs = d .runs ++ ([] ∷ []); cuts = d .cuts; history = d .history }
+abbrev pub width : Command → ℕ
+width c = length (command-bytes c)
 
-unfoldable pub run-tests : List ℕ → ℕ → ReadState → List Test
-run-tests s at t =
-    test (leb 2 (length s - at)) EndsEarly
-    ∷ test (leb (t .group) 1) OutOfOrder
-    ∷ test (eqb (byte s (at + 1)) (length (t .contents .runs))) WrongRun
-    ∷ test (ltb (length (t .contents .runs)) run-limit) TooManyRuns
-    ∷ []
+-- the groups in their order
+abbrev pub group-of : Command → ℕ
+group-of (pair p) = 0
+group-of (run r) = 1
+group-of (step x) = 1
+group-of (cut c) = 2
+group-of (done r) = 3
 
-unfoldable pub run-at : List ℕ → ℕ → ReadState → Move
-run-at s at t = checks (run-tests s at t) at
-    (on (at + 2) (record { group = 1; contents = add-run (t .contents) }))
-
--- 53, kind, position: two bytes, high first. A step at the end of the last run
+-- a step at the end of the last run
 abbrev pub add-last : List (List Step) → Step → List (List Step)
 add-last [] x = []
 add-last (r ∷ []) x = (r ++ x ∷ []) ∷ []
 add-last (r ∷ q ∷ qs) x = r ∷ add-last (q ∷ qs) x
 
-abbrev pub add-step : Contents → ℕ → ℕ → Contents
-add-step d k p = record { pairs = d .pairs; runs = add-last (d .runs) (record { kind = k; position = p }); cuts = d .cuts; history = d .history }
+-- what a command adds
+abbrev pub effect : Command → Contents → Contents
+effect (pair p) d = with-pairs d (d .pairs ++ p ∷ [])
+effect (run r) d = with-runs d (d .runs ++ [] ∷ [])
+effect (step x) d = with-runs d (add-last (d .runs) x)
+effect (cut c) d = with-cuts d (d .cuts ++ c ∷ [])
+effect (done r) d = with-history d (d .history ++ r ∷ [])
 
-unfoldable pub step-tests : List ℕ → ℕ → ReadState → List Test
-step-tests s at t =
-    test (leb 4 (length s - at)) EndsEarly
-    ∷ test (leb (t .group) 1) OutOfOrder
-    ∷ test (ltb 0 (length (t .contents .runs))) OutOfOrder
-    ∷ test (ltb (byte s (at + 1)) kind-limit) WrongKind
-    ∷ test (ltb (last (lengths (t .contents .runs))) run-step-limit) RunTooLong
-    ∷ test (ltb (sum (lengths (t .contents .runs))) step-limit) TooManySteps
+-- ---- tests
+
+-- a test: what has to hold, and the cause of the refusal where it does not
+pub record Test : Type 0 where
+  pub holds : Bool
+  pub cause : Cause
+
+abbrev pub test : Bool → Cause → Test
+test b c = record { holds = b; cause = c }
+
+-- pairs rise strictly: the new pair is above the last, compared left to right
+abbrev pub above-pair : List Pair → Pair → Bool
+above-pair [] q = true
+above-pair (p ∷ []) q = pick (eqb (p .a) (q .a)) (ltb (p .b) (q .b)) (ltb (p .a) (q .a))
+above-pair (p ∷ p′ ∷ ps) q = above-pair (p′ ∷ ps) q
+
+-- and so do cuts, as triples (r, j, o)
+abbrev pub above-cut : List Cut → Cut → Bool
+above-cut [] q = true
+above-cut (p ∷ []) q =
+    pick (eqb (p .of-run) (q .of-run)) (pick (eqb (p .after) (q .after)) (ltb (p .seen-by) (q .seen-by)) (ltb (p .after) (q .after))) (ltb (p .of-run) (q .of-run))
+above-cut (p ∷ p′ ∷ ps) q = above-cut (p′ ∷ ps) q
+
+-- the tests of a command behind those of its bytes and its group: of its operands, of the limits, and of 53 before any 52
+unfoldable pub operand-tests : Rules → Contents → Command → List Test
+operand-tests ρ d (pair p) =
+    test (ltb (p .b) kind-limit) WrongKind
+    ∷ test (leb (p .a) (p .b)) WrongKind
+    ∷ test (above-pair (d .pairs) p) NotRising
+    ∷ []
+operand-tests ρ d (run r) =
+    test (eqb r (length (d .runs))) WrongRun
+    ∷ test (ltb (length (d .runs)) run-limit) TooManyRuns
+    ∷ []
+operand-tests ρ d (step x) =
+    test (ltb 0 (length (d .runs))) OutOfOrder
+    ∷ test (ltb (x .kind) kind-limit) WrongKind
+    ∷ test (ltb (last (lengths (d .runs))) run-step-limit) RunTooLong
+    ∷ test (ltb (sum (lengths (d .runs))) (ρ .steps)) TooManySteps
+    ∷ []
+operand-tests ρ d (cut c) =
+    test (ltb (c .of-run) (length (d .runs))) WrongRun
+    ∷ test (ltb (c .seen-by) (length (d .runs))) WrongRun
+    ∷ test (not (eqb (c .of-run) (c .seen-by))) WrongRun
+    ∷ test (ltb 0 (c .after)) WrongCut
+    ∷ test (ltb (c .after) (getD (lengths (d .runs)) (c .of-run) 0)) WrongCut
+    ∷ test (above-cut (d .cuts) c) NotRising
+    ∷ []
+operand-tests ρ d (done r) =
+    test (ltb r (length (d .runs))) WrongRun
+    ∷ test (ltb (count (d .history) r) (getD (lengths (d .runs)) r 0)) NoStepLeft
     ∷ []
 
-unfoldable pub step-at : List ℕ → ℕ → ReadState → Move
-step-at s at t = checks (step-tests s at t) at
-    (on (at + 4) (record { group = 1; contents = add-step (t .contents) (byte s (at + 1)) (byte s (at + 2) * 256 + byte s (at + 3)) }))
+-- ---- reading
 
--- 42, run r, number j, run o. Triples (r, j, o) rise strictly, compared left to right
-abbrev pub above-cut : List Cut → ℕ → ℕ → ℕ → Bool
-above-cut [] r j o = true
-above-cut (p ∷ []) r j o = pick (eqb (p .of-run) r) (pick (eqb (p .after) j) (ltb (p .seen-by) o) (ltb (p .after) j)) (ltb (p .of-run) r)
-above-cut (p ∷ q ∷ qs) r j o = above-cut (q ∷ qs) r j o
+-- how far a book has been read: the group of the last command, and the contents so far
+pub record ReadState : Type 0 where
+  pub group : ℕ
+  pub contents : Contents
 
-abbrev pub add-cut : Contents → ℕ → ℕ → ℕ → Contents
-add-cut d r j o = record { pairs = d .pairs; runs = d .runs; cuts = d .cuts ++ record { of-run = r; after = j; seen-by = o } ∷ []; history = d .history }
+-- what one command does: reading goes on at an offset with a state, or is over
+pub data Move : Type 0 where
+  on : ℕ → ReadState → Move
+  over : Outcome → Move
 
-unfoldable pub cut-tests : List ℕ → ℕ → ReadState → List Test
-cut-tests s at t =
-    test (leb 4 (length s - at)) EndsEarly
-    ∷ test (leb (t .group) 2) OutOfOrder
-    ∷ test (ltb (byte s (at + 1)) (length (t .contents .runs))) WrongRun
-    ∷ test (ltb (byte s (at + 3)) (length (t .contents .runs))) WrongRun
-    ∷ test (not (eqb (byte s (at + 1)) (byte s (at + 3)))) WrongRun
-    ∷ test (ltb 0 (byte s (at + 2))) WrongCut
-    ∷ test (ltb (byte s (at + 2)) (getD (lengths (t .contents .runs)) (byte s (at + 1)) 0)) WrongCut
-    ∷ test (above-cut (t .contents .cuts) (byte s (at + 1)) (byte s (at + 2)) (byte s (at + 3))) NotRising
-    ∷ []
+abbrev pub check : Bool → Cause → ℕ → Move → Move
+check true c at m = m
+check false c at m = over (refused c at)
 
-unfoldable pub cut-at : List ℕ → ℕ → ReadState → Move
-cut-at s at t = checks (cut-tests s at t) at
-    (on (at + 4) (record { group = 2; contents = add-cut (t .contents) (byte s (at + 1)) (byte s (at + 2)) (byte s (at + 3)) }))
+-- the first test that fails refuses, and the place is the command's offset; else comes m
+abbrev pub checks : List Test → ℕ → Move → Move
+checks [] at m = m
+checks (t ∷ ts) at m = check (t .holds) (t .cause) at (checks ts at m)
 
--- 48, run r: the next step of r is done. No group comes later, so 4 can't fail
-abbrev pub add-done : Contents → ℕ → Contents
-add-done d r = record { pairs = d .pairs; runs = d .runs; cuts = d .cuts; history = d .history ++ r ∷ [] }
+-- the tests of a command at an offset: its bytes are there, no later group was begun, and those of its operands
+abbrev pub command-tests : Rules → List ℕ → ℕ → ReadState → Command → List Test
+command-tests ρ s at t c = test (leb (width c) (length s - at)) EndsEarly ∷ test (leb (t .group) (group-of c)) OutOfOrder ∷ operand-tests ρ (t .contents) c
 
-unfoldable pub done-tests : List ℕ → ℕ → ReadState → List Test
-done-tests s at t =
-    test (leb 2 (length s - at)) EndsEarly
-    ∷ test (ltb (byte s (at + 1)) (length (t .contents .runs))) WrongRun
-    ∷ test (ltb (count (t .contents .history) (byte s (at + 1))) (getD (lengths (t .contents .runs)) (byte s (at + 1)) 0)) NoStepLeft
-    ∷ []
+-- the state behind a command
+abbrev pub after : Command → ReadState → ReadState
+after c t = record { group = group-of c; contents = effect c (t .contents) }
 
-unfoldable pub done-at : List ℕ → ℕ → ReadState → Move
-done-at s at t = checks (done-tests s at t) at
-    (on (at + 2) (record { group = 3; contents = add-done (t .contents) (byte s (at + 1)) }))
+-- a command behind which reading goes on
+abbrev pub obeyed : Command → ℕ → ReadState → Move
+obeyed c at t = on (at + width c) (after c t)
+
+-- the commands that the bytes at an offset are, by the first of them
+abbrev pub pair-at : List ℕ → ℕ → Command
+pair-at s at = pair (record { a = byte s (at + 1); b = byte s (at + 2) })
+
+abbrev pub run-at : List ℕ → ℕ → Command
+run-at s at = run (byte s (at + 1))
+
+abbrev pub step-at : List ℕ → ℕ → Command
+step-at s at = step (record { kind = byte s (at + 1); position = byte s (at + 2) * 256 + byte s (at + 3) })
+
+abbrev pub cut-at : List ℕ → ℕ → Command
+cut-at s at = cut (record { of-run = byte s (at + 1); after = byte s (at + 2); seen-by = byte s (at + 3) })
+
+abbrev pub done-at : List ℕ → ℕ → Command
+done-at s at = done (byte s (at + 1))
+
+-- a command that f finds at an offset
+unfoldable pub obey : (List ℕ → ℕ → Command) → Rules → List ℕ → ℕ → ReadState → Move
+obey f ρ s at t = checks (command-tests ρ s at t (f s at)) at (obeyed (f s at) at t)
 
 -- 45: the end, and nothing behind it
-unfoldable pub end-at : List ℕ → ℕ → ReadState → Move
-end-at s at t = check (leb (length s) (at + 1)) BytesAfterEnd (at + 1) (over (accepted (t .contents)))
+unfoldable pub end-at : Rules → List ℕ → ℕ → ReadState → Move
+end-at ρ s at t = check (leb (length s) (at + 1)) BytesAfterEnd (at + 1) (over (accepted (t .contents)))
 
 -- the command at an offset; where the bytes have ended, the place of the refusal is their length
-unfoldable pub command-at : List ℕ → ℕ → ReadState → Move
-command-at s at t =
+unfoldable pub command-at : Rules → List ℕ → ℕ → ReadState → Move
+command-at ρ s at t =
     check (ltb at (length s)) EndsEarly at
-    (pick (eqb (byte s at) 0x43) (pair-at s at t)
-    (pick (eqb (byte s at) 0x52) (run-at s at t)
-    (pick (eqb (byte s at) 0x53) (step-at s at t)
-    (pick (eqb (byte s at) 0x42) (cut-at s at t)
-    (pick (eqb (byte s at) 0x48) (done-at s at t)
-    (pick (eqb (byte s at) 0x45) (end-at s at t)
+    (pick (eqb (byte s at) 0x43) (obey pair-at ρ s at t)
+    (pick (eqb (byte s at) 0x52) (obey run-at ρ s at t)
+    (pick (eqb (byte s at) 0x53) (obey step-at ρ s at t)
+    (pick (eqb (byte s at) 0x42) (check (ρ .cuts) NoCommand at (obey cut-at ρ s at t))
+    (pick (eqb (byte s at) 0x48) (obey done-at ρ s at t)
+    (pick (eqb (byte s at) 0x45) (end-at ρ s at t)
     (over (refused NoCommand at))))))))
 
 abbrev pub follow : Move → (ℕ → ReadState → Outcome) → Outcome
@@ -215,17 +262,21 @@ follow (on at t) f = f at t
 follow (over o) f = o
 
 -- at most k commands from an offset on
-unfoldable pub read-from : ℕ → List ℕ → ℕ → ReadState → Outcome
-read-from zero s at t = refused EndsEarly at
-read-from (suc k) s at t = follow (command-at s at t) (read-from k s)
+unfoldable pub read-from : Rules → ℕ → List ℕ → ℕ → ReadState → Outcome
+read-from ρ zero s at t = refused EndsEarly at
+read-from ρ (suc k) s at t = follow (command-at ρ s at t) (read-from ρ k s)
 
 abbrev pub start : ReadState
 start = record { group = 0; contents = nothing }
 
 -- commands in turn from the first byte on; each has a byte at least, so one more than the bytes are enough
-unfoldable pub read-commands : List ℕ → Outcome
-read-commands s = read-from (suc (length s)) s 0 start
+unfoldable pub read-commands : Rules → List ℕ → Outcome
+read-commands ρ s = read-from ρ (suc (length s)) s 0 start
 
 -- 1 comes first
-unfoldable pub read : List ℕ → Outcome
-read s = pick (leb (length s) length-limit) (read-commands s) (refused BookTooLong 0)
+unfoldable pub read-by : Rules → List ℕ → Outcome
+read-by ρ s = pick (leb (length s) (ρ .bytes)) (read-commands ρ s) (refused BookTooLong 0)
+
+-- the format of deck books
+abbrev pub read : List ℕ → Outcome
+read = read-by deck-rules

@@ -1,6 +1,10 @@
--- The format of a deck book, the numbers of refusals, and what a `Book` means. Reader is no part of the statement.
+-- Format: the format of a deck book. Render: the bytes of a book's contents. Numbers: the numbers of refusals. TestOrder: the order of the tests.
+-- Meaning: conflict and unit of a book. Book: what a `Book` means, and what the reader promises. inner: what the functions inside promise one
+-- another, no part of a statement.
 pub mod Format
+pub mod Render
 pub mod Numbers
+pub mod TestOrder
 pub mod Meaning
 pub mod Book
-pub mod Reader
+pub mod inner

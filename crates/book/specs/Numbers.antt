@@ -1,7 +1,9 @@
--- Document 01's number for each cause of refusal ("When something is turned away").
+-- Document 01's number for each cause of refusal ("When something is turned away"), and an answer in numbers.
 use Prim.Native.Nat.{ℕ}
+use lib.ListN.{length}
+use Rattle.book.specs.Format.{Outcome, refused, accepted}
 use Rattle.book.specs.declared.Cause.{Cause}
-use Rattle.book.specs.declared.Cause.the-variants.{BookTooLong, NoCommand, EndsEarly, OutOfOrder, WrongKind, NotRising, WrongRun, TooManyRuns, RunTooLong, TooManySteps, WrongCut, NoStepLeft, BytesAfterEnd, JudgeBufferShort, WriterBufferShort, NotDeclared, Withdrawn, AllKept, Tangled}
+use Rattle.book.specs.declared.Cause.the-variants.{BookTooLong, NoCommand, EndsEarly, OutOfOrder, WrongKind, NotRising, WrongRun, TooManyRuns, RunTooLong, TooManySteps, WrongCut, NoStepLeft, BytesAfterEnd, JudgeBufferShort, WriterBufferShort, NotDeclared, Withdrawn, AllKept, Tangled, NoCall, AnswersShort}
 
 abbrev pub number : Cause → ℕ
 number BookTooLong = 1
@@ -23,3 +25,24 @@ number NotDeclared = 20
 number Withdrawn = 21
 number AllKept = 22
 number Tangled = 23
+number NoCall = 24
+number AnswersShort = 25
+
+-- an answer in numbers: the number of a refusal or 0, its place or 0, and what the call answers or 0
+pub record Numbers : Type 0 where
+  pub number : ℕ
+  pub place : ℕ
+  pub value : ℕ
+
+-- a refusal: its number and place
+abbrev pub refused-with : Cause → ℕ → Numbers
+refused-with cause place = record { number = number cause; place = place; value = 0 }
+
+-- a call that was carried out: what it answers
+abbrev pub value-of : ℕ → Numbers
+value-of n = record { number = 0; place = 0; value = n }
+
+-- a reading answers an accepted book's number of done steps
+abbrev pub reading-numbers : Outcome → Numbers
+reading-numbers (refused cause place) = refused-with cause place
+reading-numbers (accepted c) = value-of (length (c .history))

@@ -35,7 +35,7 @@ use denote.Triple.Spec.{Meets, tripleOf}
 use denote.Triple.Walked.{says, needs, Stays, gave-ref, stay-none, walkOf, goes-none, goes-gave-ref, Walks, ends-at, walked, walk-meets}
 use denote.Exit.{yes}
 use Rattle.gate.specs.Plain.{Call}
-use Rattle.gate.specs.Gate.{Sound, CalledAs}
+use Rattle.gate.specs.Gate.{reply-numbers, Sound, CalledAs}
 use Rattle.gate.specs.declared.Gate.{Gate}
 use Rattle.gate.specs.declared.Reply.{Reply}
 use Rattle.gate.proofs.Gate as T
@@ -44,7 +44,7 @@ use Rattle.gate.proofs.Reply as N
 use Rattle.gate.proofs.Reply.Laws as N′
 use Rattle.gate.proofs.step as lent
 use Rattle.gate.proofs.Lent.{lent-clauses, Lent}
-use Rattle.capi.specs.Numbers.{call-numbers}
+use Rattle.capi.specs.Numbers.{answered}
 use Rattle.capi.specs.Calls.{GateCall}
 use Rattle.capi.specs.declared.Answered.{Answered}
 use Rattle.capi.proofs.Answered as R
@@ -110,10 +110,10 @@ module _ (the-call : ℕ → Call) where
       goes-numbers : (a : Reply) (v : Val) → ent 𝓤 (sem 𝓤 H A (N.the-row .own a (v ∷ []))) (OfCall 𝓤 H A at-mem run .pre (to-numbers a v))
       goes-numbers a v = qed W (‵ (N.the-row .own a (v ∷ [])) ∷ []) ∵ nothing ! $ move ! (1 ∷ 0 ∷ []) $ fjoin ! $ nothing ! $ join ! $ frame ! $ done !
 
-      numbers-said : (a : Reply) (r : Answered) → ent 𝓤 (ensured 𝓤 H A numbered.ended (numbered.clauses 𝓤 H A at-mem run) tt (a, tt) tt r) (fact 𝓤 (r ≡ call-numbers a))
-      numbers-said a r = exE 𝓤 _ (λ ws. snd∗ 𝓤 (sem 𝓤 H A (lasts numbered.ended tt (a, tt) ws)) (fact 𝓤 (r ≡ call-numbers a)))
+      numbers-said : (a : Reply) (r : Answered) → ent 𝓤 (ensured 𝓤 H A numbered.ended (numbered.clauses 𝓤 H A at-mem run) tt (a, tt) tt r) (fact 𝓤 (r ≡ answered (reply-numbers a)))
+      numbers-said a r = exE 𝓤 _ (λ ws. snd∗ 𝓤 (sem 𝓤 H A (lasts numbered.ended tt (a, tt) ws)) (fact 𝓤 (r ≡ answered (reply-numbers a))))
 
-      exits : (a : Reply) (g : Gate) (r : Answered) (w : Val) → CalledAs h (the-call n) a g → r ≡ call-numbers a
+      exits : (a : Reply) (g : Gate) (r : Answered) (w : Val) → CalledAs h (the-call n) a g → r ≡ answered (reply-numbers a)
           → ent 𝓤 (⋆ 𝓤 H A ((‵ (flft κ q) ⊛ ‵ ftrue) ∷ ‵ (fres γ (T.the-row .coded .code g)) ∷ ‵ (R.the-row .own r (w ∷ [])) ∷ [])) (Post w)
       exits a g r w e f =
           qed W ((‵ (flft κ q) ⊛ ‵ ftrue) ∷ ‵ (fres γ (T.the-row .coded .code g)) ∷ ‵ (R.the-row .own r (w ∷ [])) ∷ []) ∵
@@ -138,7 +138,7 @@ module _ (the-call : ℕ → Call) where
             use1 W (raw (OfCall 𝓤 H A at-mem run .pre (to-numbers a v))) (goes-numbers a v) $
             calls-at ! fm (OfCall 𝓤 H A at-mem run) known-numbers (to-numbers a v) (and-then ! (load ! (from ! (stop !)) (look ! 6 refl)) (no-more !)) (λ w.
             use1 W (later (some (λ (r : Answered). (‵ ftrue ⊛ ‵ (R.the-row .own r (w ∷ []))) ⊛ raw (ensured 𝓤 H A numbered.ended (numbered.clauses 𝓤 H A at-mem run) tt (a, tt) tt r)))) (id⊢ 𝓤 _) $ await ! tt $ pick ! (λ r.
-            split ! $ move ! (1 ∷ []) $ use1 W (raw (fact 𝓤 (r ≡ call-numbers a))) (numbers-said a r) $ heard ! (r ≡ call-numbers a) (λ f. split ! $ drop ! $
+            split ! $ move ! (1 ∷ []) $ use1 W (raw (fact 𝓤 (r ≡ answered (reply-numbers a)))) (numbers-said a r) $ heard ! (r ≡ answered (reply-numbers a)) (λ f. split ! $ drop ! $
             -- [the result; the token; what says the last value; …; _4; …; _3; …; _2; …; _1; …; room for _0; …]
             peeks ! R.the-row (Is R.the-row) (shows 𝓤 H A R.the-row) r (w ∷ []) (λ r-is.
             land ! (from ! (stop !)) (init ! 12 refl (LL.lawful R.the-type R′.the-laws 𝓤 H A W .typed r _ r-is .0)) $

@@ -1,3 +1,3 @@
--- The calls for C: the numbers of each answer, and what each call promises.
+-- Numbers: the structs that the calls for C answer. Calls: what each call promises.
 pub mod Numbers
 pub mod Calls

@@ -2,10 +2,10 @@
 use book::Answer;
 use book::Cause;
 use book::Reading;
-use classes::Reply;
+use classes::Tested;
 use gate::Gate;
 use gate::Played;
-use gate::Reply as GateReply;
+use gate::Reply;
 use judge::Judgement;
 use judge::Verdict;
 use writer::Written;
@@ -13,11 +13,16 @@ ghost use mathlib.Core.Path.{_≡_};
 ghost use Rattle.theory.specs.History.{Serial};
 ghost use Rattle.theory.specs.Relative.{RelativelyAtomic, RelativelySerial, ConflictSerializable, RelativelySerialOrder};
 ghost use Rattle.theory.specs.Graph.{Cycle, Arc};
+ghost use Rattle.book.specs.Numbers.{refused-with, value-of};
 ghost use Rattle.book.specs.Meaning.{conflict-of, unit-of};
 ghost use Rattle.gate.specs.Plain.{step as step-call, withdraw as withdraw-call};
-ghost use Rattle.gate.specs.Gate.{Sound};
-ghost use Rattle.capi.specs.Numbers.{refused-with, reply-numbers, written-numbers, played-numbers, opening-numbers, call-numbers, judgement-numbers};
-ghost use Rattle.capi.specs.Calls.{ReadCall, ReplyCall, JudgeCall, WriteCall, OpenCall, GateCall, ReplayCall};
+ghost use Rattle.classes.specs.Tested.{tested-numbers};
+ghost use Rattle.writer.specs.Written.{written-numbers};
+ghost use Rattle.judge.specs.Judged.{verdict-numbers};
+ghost use Rattle.gate.specs.Gate.{reply-numbers, Sound};
+ghost use Rattle.gate.specs.Replay.{played-numbers};
+ghost use Rattle.capi.specs.Numbers.{answered, judged};
+ghost use Rattle.capi.specs.Calls.{ReadCall, TestCall, JudgeCall, WriteCall, OpenCall, GateCall, ReplayCall};
 
 // The number of a refusal or 0, its place or 0, and what the call answers or 0.
 #[repr(C)]
@@ -36,8 +41,16 @@ pub struct Judged {
     pub count: u64,
 }
 
+// The number of a refusal or 0, its place or 0, and the gate, which has no runs where the book was refused.
+#[repr(C)]
+pub struct OpenedGate {
+    pub number: u64,
+    pub place: u64,
+    pub gate: Gate,
+}
+
 fn refused_with(cause: Cause, place: usize) -> Answered
-    ensures { λ r. ⌜ r ≡ refused-with cause place ⌝ }
+    ensures { λ r. ⌜ r ≡ answered (refused-with cause place) ⌝ }
 {
     Answered {
         number: book::number_of(cause) as u64,
@@ -47,7 +60,7 @@ fn refused_with(cause: Cause, place: usize) -> Answered
 }
 
 fn value_of(value: usize) -> Answered
-    ensures { λ r. ⌜ r ≡ record { number = 0; place = 0; value = value } ⌝ }
+    ensures { λ r. ⌜ r ≡ answered (value-of value) ⌝ }
 {
     Answered {
         number: 0,
@@ -56,18 +69,18 @@ fn value_of(value: usize) -> Answered
     }
 }
 
-fn of_reply(reply: Reply) -> Answered
-    ensures { λ r. ⌜ r ≡ reply-numbers reply ⌝ }
+fn of_tested(tested: Tested) -> Answered
+    ensures { λ r. ⌜ r ≡ answered (tested-numbers tested) ⌝ }
 {
-    match reply {
-        Reply::Refused(cause, place) => refused_with(cause, place),
-        Reply::Yes => value_of(1),
-        Reply::No => value_of(0),
+    match tested {
+        Tested::Refused(cause, place) => refused_with(cause, place),
+        Tested::Yes => value_of(1),
+        Tested::No => value_of(0),
     }
 }
 
 fn of_written(written: Written) -> Answered
-    ensures { λ r. ⌜ r ≡ written-numbers written ⌝ }
+    ensures { λ r. ⌜ r ≡ answered (written-numbers written) ⌝ }
 {
     match written {
         Written::Refused(cause, place) => refused_with(cause, place),
@@ -76,45 +89,26 @@ fn of_written(written: Written) -> Answered
 }
 
 fn of_played(played: Played) -> Answered
-    ensures { λ r. ⌜ r ≡ played-numbers played ⌝ }
+    ensures { λ r. ⌜ r ≡ answered (played-numbers played) ⌝ }
 {
     match played {
         Played::Refused(cause, place) => refused_with(cause, place),
-        Played::BadCall(at) => Answered {
-            number: 24,
-            place: at as u64,
-            value: 0,
-        },
-        Played::AnswersShort => Answered {
-            number: 25,
-            place: 0,
-            value: 0,
-        },
         Played::Done(n) => value_of(n),
     }
 }
 
-fn of_opening(answer: Answer) -> Answered
-    ensures { λ r. ⌜ r ≡ opening-numbers answer ⌝ }
-{
-    match answer {
-        Answer::Refused(cause, place) => refused_with(cause, place),
-        Answer::Accepted => value_of(0),
-    }
-}
-
-fn of_call(reply: GateReply) -> Answered
-    ensures { λ r. ⌜ r ≡ call-numbers reply ⌝ }
+fn of_call(reply: Reply) -> Answered
+    ensures { λ r. ⌜ r ≡ answered (reply-numbers reply) ⌝ }
 {
     match reply {
-        GateReply::Place(place) => value_of(place),
-        GateReply::Withdrawn => value_of(0),
-        GateReply::Refused(cause) => refused_with(cause, 0),
+        Reply::Place(place) => value_of(place),
+        Reply::Withdrawn => value_of(0),
+        Reply::Refused(cause) => refused_with(cause, 0),
     }
 }
 
 fn of_judgement(j: Judgement) -> Judged
-    ensures { λ r. ⌜ r ≡ judgement-numbers j ⌝ }
+    ensures { λ r. ⌜ r ≡ judged (verdict-numbers (j .verdict)) (j .count) ⌝ }
 {
     let verdict = j.verdict;
     let count = j.count as u64;
@@ -144,7 +138,7 @@ fn of_judgement(j: Judgement) -> Judged
 pub extern "C" fn deck_read(s: &[u8]) -> Answered
     ensures { λ r. ⌜ ReadCall (now (s .entry)) r ⌝ }
 {
-    let reading = book::read(s);
+    let reading = reader::read(s);
     let answer = reading.answer;
     match answer {
         Answer::Refused(cause, place) => refused_with(cause, place),
@@ -165,58 +159,58 @@ pub extern "C" fn deck_judge(s: &[u8], order: &mut [u8], cycle: &mut [u8]) -> Ju
 
 #[no_mangle]
 pub extern "C" fn deck_serial(s: &[u8]) -> Answered
-    ensures { λ r. ⌜ ReplyCall (λ c. Serial (c .history)) (now (s .entry)) r ⌝ }
+    ensures { λ r. ⌜ TestCall (λ c. Serial (c .history)) (now (s .entry)) r ⌝ }
 {
-    let reply = classes::serial(s);
-    of_reply(reply)
+    let tested = classes::serial(s);
+    of_tested(tested)
 }
 
 #[no_mangle]
 pub extern "C" fn deck_atomic(s: &[u8]) -> Answered
-    ensures { λ r. ⌜ ReplyCall (λ c. RelativelyAtomic (unit-of c) (c .history)) (now (s .entry)) r ⌝ }
+    ensures { λ r. ⌜ TestCall (λ c. RelativelyAtomic (unit-of c) (c .history)) (now (s .entry)) r ⌝ }
 {
-    let reply = classes::relatively_atomic(s);
-    of_reply(reply)
+    let tested = classes::relatively_atomic(s);
+    of_tested(tested)
 }
 
 #[no_mangle]
 pub extern "C" fn deck_relserial(s: &[u8]) -> Answered
-    ensures { λ r. ⌜ ReplyCall (λ c. RelativelySerial (conflict-of c) (unit-of c) (c .history)) (now (s .entry)) r ⌝ }
+    ensures { λ r. ⌜ TestCall (λ c. RelativelySerial (conflict-of c) (unit-of c) (c .history)) (now (s .entry)) r ⌝ }
 {
-    let reply = classes::relatively_serial(s);
-    of_reply(reply)
+    let tested = classes::relatively_serial(s);
+    of_tested(tested)
 }
 
 #[no_mangle]
 pub extern "C" fn deck_conflict(s: &[u8]) -> Answered
-    ensures { λ r. ⌜ ReplyCall (λ c. ConflictSerializable (conflict-of c) (c .history)) (now (s .entry)) r ⌝ }
+    ensures { λ r. ⌜ TestCall (λ c. ConflictSerializable (conflict-of c) (c .history)) (now (s .entry)) r ⌝ }
 {
-    let reply = classes::conflict_serializable(s);
-    of_reply(reply)
+    let tested = classes::conflict_serializable(s);
+    of_tested(tested)
 }
 
 #[no_mangle]
 pub extern "C" fn deck_check_order(s: &[u8], list: &[u8]) -> Answered
-    ensures { λ r. ⌜ ReplyCall (λ c. RelativelySerialOrder (conflict-of c) (unit-of c) (c .history) (now (list .entry))) (now (s .entry)) r ⌝ }
+    ensures { λ r. ⌜ TestCall (λ c. RelativelySerialOrder (conflict-of c) (unit-of c) (c .history) (now (list .entry))) (now (s .entry)) r ⌝ }
 {
-    let reply = evidence::order_check(s, list);
-    of_reply(reply)
+    let tested = evidence::order_check(s, list);
+    of_tested(tested)
 }
 
 #[no_mangle]
 pub extern "C" fn deck_check_cycle(s: &[u8], list: &[u8]) -> Answered
-    ensures { λ r. ⌜ ReplyCall (λ c. Cycle (conflict-of c) (unit-of c) (c .history) (now (list .entry))) (now (s .entry)) r ⌝ }
+    ensures { λ r. ⌜ TestCall (λ c. Cycle (conflict-of c) (unit-of c) (c .history) (now (list .entry))) (now (s .entry)) r ⌝ }
 {
-    let reply = evidence::cycle_check(s, list);
-    of_reply(reply)
+    let tested = evidence::cycle_check(s, list);
+    of_tested(tested)
 }
 
 #[no_mangle]
 pub extern "C" fn deck_arc(s: &[u8], from: usize, to: usize) -> Answered
-    ensures { λ r. ⌜ ReplyCall (λ c. Arc (conflict-of c) (unit-of c) (c .history) from to) (now (s .entry)) r ⌝ }
+    ensures { λ r. ⌜ TestCall (λ c. Arc (conflict-of c) (unit-of c) (c .history) from to) (now (s .entry)) r ⌝ }
 {
-    let reply = evidence::arc_test(s, from, to);
-    of_reply(reply)
+    let tested = evidence::arc_test(s, from, to);
+    of_tested(tested)
 }
 
 #[no_mangle]
@@ -228,12 +222,24 @@ pub extern "C" fn deck_write(s: &[u8], out: &mut [u8]) -> Answered
 }
 
 #[no_mangle]
-pub extern "C" fn deck_open(s: &[u8], g: &mut Gate) -> Answered
-    ensures { λ r. ⌜ OpenCall (now (s .entry)) (now (g .exit)) r ⌝ }
+pub extern "C" fn deck_open(s: &[u8]) -> OpenedGate
+    ensures { λ r. ⌜ OpenCall (now (s .entry)) r ⌝ }
 {
     let opened = gate::open(s);
-    *g = opened.gate;
-    of_opening(opened.answer)
+    let answer = opened.answer;
+    let gate = opened.gate;
+    match answer {
+        Answer::Refused(cause, place) => OpenedGate {
+            number: book::number_of(cause) as u64,
+            place: place as u64,
+            gate,
+        },
+        Answer::Accepted => OpenedGate {
+            number: 0,
+            place: 0,
+            gate,
+        },
+    }
 }
 
 #[no_mangle]

@@ -29,7 +29,7 @@ use Rattle.judge.specs.declared.Judgement.{Judgement}
 use Rattle.judge.specs.declared.Verdict.{Verdict}
 use Rattle.judge.specs.declared.Verdict.the-variants.{Passed, Tangled, Refused as NotJudged}
 use Rattle.judge.proofs.Uncut.{bytes-passed, uncut-passed}
-use Rattle.classes.specs.Reply.{RepliesTo}
+use Rattle.classes.specs.Tested.{OutcomeTested}
 use Rattle.gate.specs.Gate.{opening-answer, opened-book}
 use Rattle.gate.specs.Replay.{played-by}
 use Rattle.gate.proofs.Unchanged.{refused-unchanged}
@@ -84,7 +84,7 @@ demand-1 = record {
 }
 
 pub demand-1-test : (P : Contents → Type 0) → Demand1Test P
-demand-1-test P = record { test-refused = λ s r cause place w e. subst (λ (o : Outcome). RepliesTo o P r) e (w .reply) .reply }
+demand-1-test P = record { test-refused = λ s r cause place w e. subst (λ (o : Outcome). OutcomeTested o P r) e (w .tested) .refusal }
 
 -- ---- demand 2
 

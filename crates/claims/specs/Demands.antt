@@ -22,9 +22,9 @@ use Rattle.writer.specs.declared.Written.the-variants.{Refused as NotWritten}
 use Rattle.judge.specs.Judge.{BytesJudged}
 use Rattle.judge.specs.declared.Judgement.{Judgement}
 use Rattle.judge.specs.declared.Verdict.the-variants.{Passed, Refused as NotJudged}
-use Rattle.classes.specs.Reply.{Replies}
-use Rattle.classes.specs.declared.Reply.{Reply}
-use Rattle.classes.specs.declared.Reply.the-variants.{Refused as NotTested}
+use Rattle.classes.specs.Tested.{TestedAs}
+use Rattle.classes.specs.declared.Tested.{Tested}
+use Rattle.classes.specs.declared.Tested.the-variants.{Refused as NotTested}
 use Rattle.gate.specs.Plain.{Call, Answer as PlainAnswer, newly-opened, PlainCall}
 use Rattle.gate.specs.Plain.{refused as refused-by}
 use Rattle.gate.specs.Gate.{book-of, state-of, Sound, OpenedAs, CalledAs}
@@ -63,7 +63,7 @@ pub record Demand1 : Type 0 where
 
 -- Demand 1 of a class test, the order check, the cycle check or the arc test, which asks whether the contents have the property P: 1 to 11.
 pub record Demand1Test (P : Contents → Type 0) : Type 0 where
-  pub test-refused : (s : List ℕ) (r : Reply) (cause : Cause) (place : ℕ) → Replies P s r → read s ≡ refused cause place → r ≡ NotTested cause place
+  pub test-refused : (s : List ℕ) (r : Tested) (cause : Cause) (place : ℕ) → TestedAs P s r → read s ≡ refused cause place → r ≡ NotTested cause place
 
 -- Demand 2, of a judgement r on the bytes of a book with contents c, and of the buffers after the call.
 pub record Demand2 (c : Contents) (order′ cycle′ : List ℕ) (r : Judgement) : Type 0 where
@@ -85,4 +85,4 @@ EveryJudgement = (s : List ℕ) (c : Contents) → read s ≡ accepted c → (or
 -- Demand 3 for every accepted book, every gate that opening it returned, and every list of calls made in turn on that record.
 abbrev pub EveryListOfCalls : Type 0
 EveryListOfCalls = (s : List ℕ) (c : Contents) → Bytes s → read s ≡ accepted c → (o : Opened) → OpenedAs (read s) o
-    → (calls : List Call) (answers : List PlainAnswer) (g : Gate) → Chain (o .gate) calls answers g → Demand3 c calls answers (state-of g)
+    → (calls : List Call) (answers : List PlainAnswer) (g : Gate) → Chain (o .gate) calls answers g → Demand3 s c calls answers (state-of g)

@@ -1,6 +1,5 @@
 -- A valid book's history and tables, as the tests over tables take them, and what those tests then say of the book's contents.
-use Prim.Native.Nat.{ℕ, zero-le}
-use native.Mathlib.Omega.{arith}
+use Prim.Native.Nat.{ℕ}
 use mathlib.Core.Path.{_≡_, refl}
 use mathlib.Core.Bool.{Bool, true, false}
 use mathlib.Core.List.{List}
@@ -15,21 +14,20 @@ use Rattle.book.specs.declared.Book.{Book}
 use Rattle.book.specs.declared.Answer.{Answer}
 use Rattle.book.specs.declared.Answer.the-variants.{Refused as ReadRefused, Accepted}
 use Rattle.book.specs.declared.Reading.{Reading}
-use Rattle.book.proofs.Books.{history-long}
 use Rattle.graph.specs.Answers.{Answers}
 use Rattle.graph.proofs.Answered.{refute}
 use Rattle.graph.specs.Marks.{Marks}
 use Rattle.graph.specs.Units.{UnitTables}
-use Rattle.graph.proofs.BookTables.{book-done}
-use Rattle.classes.specs.declared.Reply.{Reply}
-use Rattle.classes.specs.declared.Reply.the-variants.{Refused}
-use Rattle.classes.specs.Reply.{RepliesTo, Replies}
-use Rattle.classes.specs.Inner.{History, RowsOfPlaces, AtomicBy, RelativelySerialBy, reply-to}
+use Rattle.graph.proofs.BookTables.{book-history}
+use Rattle.graph.proofs.ArcMarks.{rowed}
+use Rattle.graph.specs.inner.Arcs.{Rowed}
+use Rattle.classes.specs.declared.Tested.{Tested}
+use Rattle.classes.specs.declared.Tested.the-variants.{Refused}
+use Rattle.classes.specs.Tested.{OutcomeTested, TestedAs}
+use Rattle.classes.specs.inner.Tables.{AtomicBy, RelativelySerialBy}
+use Rattle.classes.specs.inner.Books.{tested-by}
 
 module _ (b : Book) (v : Valid b) where
-  pub book-history : History (b .history) (b .done)
-  book-history = record { long = v .history .long; within = book-done b v; runs = record { small = v .history .small } }
-
   module _ (t : Bool) where
     pub book-serial : Answers (Serial (take (b .done) (b .history))) t → Answers (Serial (contents-of b .history)) t
     unfolding contents-of
@@ -45,24 +43,25 @@ module _ (b : Book) (v : Valid b) where
       unfolding contents-of
       book-relatively-serial dep m a = a .answers (conflict-of (contents-of b)) (unit-of (contents-of b)) m (u .firsts-are) (u .lasts-are)
 
-  pub book-rows : (firsts₀ firsts lasts₀ lasts : List ℕ) → UnitTables (unit-of (contents-of b)) (contents-of b .history) firsts₀ firsts lasts₀ lasts → RowsOfPlaces lasts (b .done)
-  book-rows firsts₀ firsts lasts₀ lasts u = record {
-    row = λ p i. record {
-      small = λ o j.
-          omega (arith, u .lasts-are .at p o zero-le (omega (arith, history-long b v)) j .inside, history-long b v, book-done b v);
-    };
-  }
+  module _ (firsts₀ firsts lasts₀ lasts : List ℕ) (u : UnitTables (unit-of (contents-of b)) (contents-of b .history) firsts₀ firsts lasts₀ lasts) where
+    pub book-firsts : Rowed (b .done) firsts
+    unfolding contents-of
+    book-firsts = rowed (b .history) (b .done) firsts (book-history b v) (λ o p f e. e .inside) (u .firsts-are)
 
--- ---- the reply
+    pub book-lasts : Rowed (b .done) lasts
+    unfolding contents-of
+    book-lasts = rowed (b .history) (b .done) lasts (book-history b v) (λ o p f e. e .inside) (u .lasts-are)
 
-pub refusal-kept : (m : Answer) (t : Bool) (cause : Cause) (place : ℕ) → m ≡ ReadRefused cause place → Refused cause place ≡ reply-to m t
+-- ---- what a test says
+
+pub refusal-kept : (m : Answer) (t : Bool) (cause : Cause) (place : ℕ) → m ≡ ReadRefused cause place → Refused cause place ≡ tested-by m t
 refusal-kept m t cause place e = rw e
 
--- a test of the book that was read replies for the bytes
-pub replied : (P : Contents → Type 0) (s : List ℕ) (r : Reading) → ReadAs (read s) r → (t : Bool) → Answers (P (contents-of (r .book))) t → (y : Reply) → y ≡ reply-to (r .answer) t → Replies P s y
-replied P s r w t a y is = record { reply = rw (← w .outcome, is) (go (r .answer) t a) }
+-- the answer of a test of the book that was read is that of its bytes
+pub tested : (P : Contents → Type 0) (s : List ℕ) (r : Reading) → ReadAs (read s) r → (t : Bool) → Answers (P (contents-of (r .book))) t → (y : Tested) → y ≡ tested-by (r .answer) t → TestedAs P s y
+tested P s r w t a y is = record { tested = rw (← w .outcome, is) (go (r .answer) t a) }
   where
-    go : (m : Answer) (t : Bool) → Answers (P (contents-of (r .book))) t → RepliesTo (outcome-by m (r .book)) P (reply-to m t)
-    go (ReadRefused cause place) t a = record { reply = refl; answer = refl }
+    go : (m : Answer) (t : Bool) → Answers (P (contents-of (r .book))) t → OutcomeTested (outcome-by m (r .book)) P (tested-by m t)
+    go (ReadRefused cause place) t a = record { refusal = refl; numbers = refl }
     go Accepted true a = a .sound refl
     go Accepted false a = refute a refl

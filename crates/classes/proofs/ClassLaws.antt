@@ -6,7 +6,6 @@ use mathlib.Core.Logic.{_⊎_, inl, inr}
 use mathlib.Core.Bool.{Bool, true, false}
 use mathlib.Core.List.{List}
 use lib.ListN.{length, getD, take}
-use lib.Seq.{getD-take, length-take-le}
 use Rattle.theory.specs.History.{run}
 use Rattle.theory.specs.Relative.{Depends, InUnit, Interleaved, RelativelySerial}
 use Rattle.theory.specs.Graph.{FirstOf, LastOf}
@@ -14,19 +13,23 @@ use Rattle.theory.proofs.Steps.{unit-refl, unit-sym, unit-trans}
 use Rattle.bits.specs.Table.{bit-at}
 use Rattle.graph.proofs.Answered.{answer-yes, answer-no}
 use Rattle.graph.specs.Marks.{Marks}
+use Rattle.graph.specs.inner.Tables.{HistoryOf}
 use Rattle.graph.specs.Units.{Firsts, Lasts}
+use Rattle.graph.proofs.Counting.{history-length, history-run}
 use Rattle.book.specs.Format.{run-limit}
-use Rattle.classes.specs.Inner.{History, InterleavedIn, LinkedIn, ViolatesIn, NoneBelow, NonePair, AtomicBy, RelativelySerialBy}
+use Rattle.judge.specs.inner.Turns.{NoneBelow}
+use Rattle.classes.specs.inner.Tables.{InterleavedIn, LinkedIn, ViolatesIn, AtomicBy, RelativelySerialBy}
+use Rattle.classes.proofs.Searched.{NonePair}
 use Rattle.classes.proofs.UnitEnds.{interleaved-first, first-before, interleaved-other, dep-first, dep-last}
 
 -- ---- the history's places and the tables
 
-module _ (history : List ℕ) (n : ℕ) (w : History history n) where
-  pub size : length (take n history) ≡ n
-  size = length-take-le n history (omega (arith, w .long, w .within))
+module _ (history : List ℕ) (n : ℕ) (w : HistoryOf history n) where
+  size : length (take n history) ≡ n
+  size = history-length w
 
   run-at : (p : ℕ) → p < n → run (take n history) p ≡ getD history p 0
-  run-at p i = getD-take n history p 0 i
+  run-at p i = history-run history n p i
 
   module _ (unit : ℕ → ℕ → ℕ → ℕ) (firsts : List ℕ) (f : Firsts unit (take n history) firsts) where
     first-at : (b c : ℕ) → b < n → c < n → FirstOf unit (take n history) (run (take n history) b) c (getD firsts (c * run-limit + getD history b 0) 0)

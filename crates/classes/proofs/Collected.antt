@@ -11,6 +11,7 @@ use lib.ListN.{replicate}
 use Rattle.theory.proofs.Finite.{below-suc}
 use Rattle.bits.specs.Table.{row-bits, bit-at, Marked}
 use Rattle.bits.proofs.Store.{zeros-bit}
+use Rattle.graph.proofs.Counting.{clash}
 
 -- x is one of the first n values
 pub record Met (v : ℕ → ℕ) (n x : ℕ) : Type 0 where
@@ -27,10 +28,7 @@ met-more : {v : ℕ → ℕ} {n x : ℕ} → Met v n x → Met v (n + 1) x
 met-more m = record { index = m .index; below = omega (arith, m .below); value = m .value }
 
 pub collected-none : (words : ℕ) (v : ℕ → ℕ) → Collected (replicate words 0) v 0
-collected-none words v = record { sound = λ x i e. absurd (zero-one (sym (zeros-bit words 0 x) ∙ e)); complete = λ k i. absurd (not-suc-le-zero i) }
-  where
-    zero-one : _≡_ {A = ℕ} 0 1 → ⊥
-    zero-one e = omega arith
+collected-none words v = record { sound = λ x i e. absurd (clash (zeros-bit words 0 x) e); complete = λ k i. absurd (not-suc-le-zero i) }
 
 module _ (row : List ℕ) (v : ℕ → ℕ) (n : ℕ) (s : Collected row v n) where
   -- the next value was met before

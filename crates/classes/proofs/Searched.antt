@@ -1,4 +1,4 @@
--- A search below a bound that has found nothing so far.
+-- A search of the pairs of places below a bound that has found nothing so far.
 use Prim.Native.Nat.{ℕ, _+_, _<_}
 use native.Mathlib.Nat.{not-suc-le-zero}
 use native.Mathlib.Omega.{arith}
@@ -6,18 +6,11 @@ use native.Mathlib.Numerals.{add-one}
 use mathlib.Core.Path.{_≡_}
 use mathlib.Core.Logic.{_⊎_, inl, inr}
 use Rattle.theory.proofs.Finite.{below-suc}
-use Rattle.classes.specs.Inner.{NoneBelow, NonePair}
+use Rattle.judge.specs.inner.Turns.{NoneBelow}
 
-module _ (P : ℕ → Type 0) where
-  pub none-yet : NoneBelow P 0
-  none-yet = record { none = λ k i p. not-suc-le-zero i }
-
-  pub none-more : (n : ℕ) → NoneBelow P n → ¬ P n → NoneBelow P (n + 1)
-  none-more n t u = record { none = λ k i p. go k p (below-suc (rw (← add-one n) i)) }
-    where
-      go : (k : ℕ) → P k → (k ≡ n) ⊎ (k < n) → ⊥
-      go k p (inl e) = u (rw e at p)
-      go k p (inr i) = t .none k i p
+-- no two places b before c below n have the property
+pub record NonePair (P : ℕ → ℕ → Type 0) (n : ℕ) : Type 0 where
+  pub none : (b c : ℕ) → b < c → c < n → ¬ P b c
 
 module _ (P : ℕ → ℕ → Type 0) where
   pub no-pair-yet : NonePair P 0

@@ -15,11 +15,12 @@ use borrow.Author.Tests.{eqb-true, eq-eqb}
 use Rattle.theory.specs.History.{run, Serial}
 use Rattle.theory.proofs.Finite.{below-suc}
 use Rattle.bits.specs.Table.{bit-at, Marked}
+use Rattle.book.specs.Format.{run-limit}
 use Rattle.graph.specs.Answers.{Answers}
+use Rattle.graph.specs.inner.Tables.{HistoryOf, NumberAt}
+use Rattle.graph.proofs.Counting.{history-length}
 use Rattle.graph.proofs.Answered.{answer-yes, answer-no, false-true}
-use Rattle.classes.specs.Inner.{History, RunAt}
 use Rattle.classes.proofs.Collected.{Collected, collected-none, collected-again, collected-more}
-use Rattle.classes.proofs.ClassLaws.{size}
 
 pub record TogetherUpTo (history seen : List ℕ) (p : ℕ) : Type 0 where
   pub runs : Collected seen (λ k. getD history k 0) p
@@ -28,16 +29,16 @@ pub record TogetherUpTo (history seen : List ℕ) (p : ℕ) : Type 0 where
 pub together-none : (history : List ℕ) (words : ℕ) → TogetherUpTo history (replicate words 0) 0
 together-none history words = record { runs = collected-none words _; together = λ a b c k j i e. absurd (not-suc-le-zero i) }
 
-module _ (history : List ℕ) (n : ℕ) (w : History history n) (seen : List ℕ) (p : ℕ) (u : TogetherUpTo history seen p) where
+module _ (history : List ℕ) (n : ℕ) (w : HistoryOf history n) (seen : List ℕ) (p : ℕ) (u : TogetherUpTo history seen p) where
   pub together-all : n ≤ p → Answers (Serial (take n history)) true
   together-all le = answer-yes (λ a b c k j i e.
-      let s = size history n w in
+      let s = history-length w in
       let z : c < n = omega arith in
       let y : b < n = omega arith in
       let x : a < n = omega arith in
       rw (getD-take n history b 0, getD-take n history a 0) (u .together a b c k j (omega arith) (rw (getD-take n history a 0, getD-take n history c 0) at e)))
 
-  module _ (r : ℕ) (here : RunAt history p r) (t : Bool) (test : t ≡ eqb (bit-at seen 0 r) 1) where
+  module _ (r : ℕ) (here : NumberAt history p run-limit r) (t : Bool) (test : t ≡ eqb (bit-at seen 0 r) 1) where
     met : t ≡ true → bit-at seen 0 (getD history p 0) ≡ 1
     met e = let q : bit-at seen 0 r ≡ 1 = eqb-true _ 1 (sym test ∙ e) in rw (here .is) at q
 
@@ -45,7 +46,7 @@ module _ (history : List ℕ) (n : ℕ) (w : History history n) (seen : List ℕ
     pub met-after : t ≡ true → 0 < p
     met-after e = let m = u .runs .sound (getD history p 0) (omega (arith, w .runs .small p)) (met e) in omega (arith, m .below)
 
-    module _ (q : ℕ) (before : RunAt history (p - 1) q) where
+    module _ (q : ℕ) (before : NumberAt history (p - 1) run-limit q) where
       pub together-same : t ≡ true → q ≡ r → TogetherUpTo history seen (p + 1)
       together-same e same = record { runs = collected-again seen _ p (u .runs) (met e); together = λ a b c k j i d. go a b c k j d (below-suc (rw (← add-one p) i)) }
         where
@@ -71,7 +72,7 @@ module _ (history : List ℕ) (n : ℕ) (w : History history n) (seen : List ℕ
           go : (k : ℕ) → k < p → getD history k 0 ≡ getD history p 0 → Serial (take n history) → Dec (k ≡ p - 1) → ⊥
           go k j v s (yes x) = other (before .is ∙ ap (λ (z : ℕ). getD history z 0) (sym x) ∙ v ∙ sym (here .is))
           go k j v s (no x) =
-              let z = size history n w in
+              let z = history-length w in
               let k′ : k < n = omega arith in
               let l : p - 1 < n = omega arith in
               let d : run (take n history) k ≡ run (take n history) p = getD-take n history k 0 k′ ∙ v ∙ sym (getD-take n history p 0 i) in

@@ -1,3 +1,3 @@
--- The root of the specs of `classes`. Inner is no part of the statement.
-pub mod Reply
-pub mod Inner
+-- Tested: what a test of a book's bytes says. inner is no part of the statement.
+pub mod Tested
+pub mod inner

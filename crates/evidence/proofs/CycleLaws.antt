@@ -19,7 +19,7 @@ use Rattle.graph.specs.Answers.{Answers}
 use Rattle.graph.proofs.Answered.{answer-yes, answer-no, false-true}
 use Rattle.graph.specs.Marks.{Marks}
 use Rattle.classes.proofs.Collected.{Collected, collected-none, collected-more}
-use Rattle.evidence.specs.Inner.{Follows, CycleBy, ArcBy}
+use Rattle.evidence.specs.inner.Tables.{Follows, CycleBy, ArcBy}
 
 -- the place before the one at an index, the last before the first
 abbrev pub place-before : List ℕ → ℕ → ℕ

@@ -15,7 +15,7 @@ use Rattle.bits.specs.Table.{bit-at}
 use Rattle.bits.specs.declared.Found.{Found}
 use Rattle.bits.specs.declared.Found.the-variants.{At, Nothing}
 use Rattle.bits.proofs.Store.{bit-at-lt}
-use Rattle.evidence.specs.Inner.{NextAt, NoNext, NextStep}
+use Rattle.evidence.specs.inner.Tables.{NextAt, NoNext, NextStep}
 
 module _ (history taken : List ℕ) where
   pub none-left : (r : ℕ) → NoNext history taken 0 r

@@ -3,31 +3,38 @@
 use Prim.Native.Nat.{ℕ, suc, _+_, _≤_, _<_, zero-le}
 use native.Mathlib.Nat.{not-suc-le-zero, le-antisymm, lt-irrefl}
 use native.Mathlib.Omega.{arith}
-use native.Mathlib.Decide.{decLt, ℕ-discrete}
+use native.Mathlib.Decide.{decLt}
 use native.Mathlib.Numerals.{add-one}
 use mathlib.Core.Path.{_≡_, refl, sym, ap, _∙_}
 use mathlib.Core.Logic.{_⊎_, inl, inr, _↔_}
-use mathlib.Core.Bool.{Bool, true, false}
+use mathlib.Core.Bool.{Bool, true, false, not}
 use mathlib.Core.List.{List, [], _∷_, _++_}
 use lib.ListN.{length, getD, take, replicate}
 use lib.Seq.{getD-take, take-suc, take-all}
 use lib.Dec.{eqb}
+use borrow.Author.Tests.{not-true, not-false}
 use Rattle.theory.specs.History.{suc-if, count, run, ordinal, Same, Order}
 use Rattle.theory.specs.Relative.{Conflicting, DirectlyDepends, Depends, direct, through, Equivalent}
 use Rattle.theory.specs.Graph.{Arc, arc-I, arc-D, arc-F, arc-B, ArcD, Taken, Ready}
 use Rattle.theory.proofs.Finite.{below-suc}
-use Rattle.theory.proofs.Places.{Compared, eq-cases, count-snoc, count-take-lt, count-take-mono, count-take-le, order-length, ordinal-lt, place-of, place-of-spec, place-of-mono, place-of-back, place-of-ordinal, place-of-lt-take, within-length}
+use Rattle.theory.specs.inner.Places.{place-of}
+use Rattle.theory.proofs.Lists.{count-snoc, count-take-lt, count-take-mono, count-take-le}
+use Rattle.theory.proofs.Places.{Compared, eq-cases, order-length, ordinal-lt, place-of-spec, place-of-mono, place-of-back, place-of-ordinal, place-of-lt-take, within-length}
 use Rattle.theory.proofs.Steps.{at, Keeps, order-within, at-lt, at-same, same-at, same-sym, dep-lt, dep-inside, dep-at}
 use Rattle.theory.proofs.Decisions.{agrees-keeps}
 use Rattle.theory.proofs.Greedy.{taken-turn}
 use Rattle.bits.specs.Table.{row-bits, bit-at, Marked}
-use Rattle.bits.specs.Table.{Within as Subset}
-use Rattle.bits.proofs.Store.{zeros-bit}
+use Rattle.bits.specs.Table.{Subset}
+use Rattle.bits.specs.declared.Found.{Found}
+use Rattle.bits.specs.declared.Found.the-variants.{At, Nothing}
 use Rattle.graph.proofs.Answered.{answer-yes, answer-no, false-true}
 use Rattle.graph.specs.Marks.{Marks}
-use Rattle.classes.specs.Inner.{History}
-use Rattle.classes.proofs.ClassLaws.{size}
-use Rattle.evidence.specs.Inner.{NextAt, NoNext, EquivalentBy}
+use Rattle.graph.specs.inner.Tables.{HistoryOf}
+use Rattle.judge.specs.inner.Turns.{TakenIn}
+use Rattle.judge.proofs.ReadyPlaces.{none-taken, taken-added}
+use Rattle.graph.proofs.Counting.{history-length}
+use Rattle.evidence.specs.inner.Tables.{NextAt, NoNext, NextStep, EquivalentBy}
+use Rattle.evidence.proofs.NextLaws.{next-at, nothing-left}
 
 -- ---- the next step of a run
 
@@ -103,11 +110,6 @@ taken-before h l o a x i k =
 
 -- ---- the walk
 
--- the row has the places that the steps of l take
-pub record TakenIn (h l taken : List ℕ) : Type 0 where
-  pub sound : (p : ℕ) → p < length h → bit-at taken 0 p ≡ 1 → Taken h l p
-  pub complete : (p : ℕ) → p < length h → Taken h l p → bit-at taken 0 p ≡ 1
-
 module _ (history : List ℕ) (n : ℕ) where
   abbrev H : List ℕ
   H = take n history
@@ -120,18 +122,15 @@ module _ (history : List ℕ) (n : ℕ) where
 
   pub agreed-none : (dep l : List ℕ) (words : ℕ) → AgreedUpTo dep l (replicate words 0) 0
   agreed-none dep l words = record {
-    places = record { sound = λ p i e. absurd (zero-one (sym (zeros-bit words 0 p) ∙ e)); complete = λ p i t. absurd (not-suc-le-zero t) };
+    places = none-taken H words;
     within = λ r. zero-le;
     after = λ conflict m k x i. absurd (not-suc-le-zero i);
   }
-    where
-      zero-one : _≡_ {A = ℕ} 0 1 → ⊥
-      zero-one e = omega arith
 
-  pub other-length : (dep l : List ℕ) → History history n → (length l ≡ n → ⊥) → EquivalentBy history n dep l false
-  other-length dep l w ne = record { answers = λ conflict m. answer-no (λ e. ne (order-length H l (e .order) ∙ size history n w)) }
+  pub other-length : (dep l : List ℕ) → HistoryOf history n → (length l ≡ n → ⊥) → EquivalentBy history n dep l false
+  other-length dep l w ne = record { answers = λ conflict m. answer-no (λ e. ne (order-length H l (e .order) ∙ history-length w)) }
 
-  module _ (w : History history n) (dep l taken : List ℕ) (a : ℕ) (same : length l ≡ n) (u : AgreedUpTo dep l taken a) where
+  module _ (w : HistoryOf history n) (dep l taken : List ℕ) (a : ℕ) (same : length l ≡ n) (u : AgreedUpTo dep l taken a) where
     pub agreed-all : n ≤ a → EquivalentBy history n dep l true
     agreed-all le = record { answers = λ conflict m. answer-yes (record { order = o; agrees = agrees-keeps conflict H l o .0 (keeps conflict m) }) }
       where
@@ -139,7 +138,7 @@ module _ (history : List ℕ) (n : ℕ) where
         all = take-all a l (omega arith)
 
         o : Order H l
-        o = within-whole H l (λ r. rw all at (u .within r)) (same ∙ sym (size history n w))
+        o = within-whole H l (λ r. rw all at (u .within r)) (same ∙ sym (history-length w))
 
         keeps : (conflict : ℕ → ℕ → ℕ → ℕ → Bool) → Marks (Depends conflict H) dep → Keeps conflict H l
         keeps conflict m p q k i c =
@@ -150,9 +149,12 @@ module _ (history : List ℕ) (n : ℕ) where
             place-of-lt-take l (run H p) (ordinal H p) (at H l q) (u .after conflict m (at H l q) p (omega arith) (rw b d))
 
     module _ (i : a < n) where
-      pub no-next : NoNext history taken n (getD l a 0) → EquivalentBy history n dep l false
-      no-next t = record { answers = λ conflict m. answer-no (λ e. go (e .order)) }
+      pub no-next : (f : Found) → NextStep history taken n (getD l a 0) f → f ≡ Nothing → EquivalentBy history n dep l false
+      no-next f found none = record { answers = λ conflict m. answer-no (λ e. go (e .order)) }
         where
+          t : NoNext history taken n (getD l a 0)
+          t = nothing-left history taken n (getD l a 0) f found none
+
           r : ℕ
           r = getD l a 0
 
@@ -161,17 +163,23 @@ module _ (history : List ℕ) (n : ℕ) where
               let j : count (take a l) r < count H r = omega (arith, o r, count-take-lt l r a (omega arith) refl, count-take-le l r (suc a)) in
               let s = place-of-spec H r (count (take a l) r) j in
               let x : ℕ = place-of H r (count (take a l) r) in
-              let xn : x < n = omega (arith, s .0, size history n w) in
+              let xn : x < n = omega (arith, s .0, history-length w) in
               let y = u .places .sound x (s .0) (t .all x xn (sym (getD-take n history x 0 xn) ∙ s .1)) in
               let z : ordinal H x < count (take a l) r = rw (s .1) at y in
               lt-irrefl (count (take a l) r) (omega (arith, place-of-ordinal H r (count (take a l) r) j, z))
 
-      module _ (q : ℕ) (t : NextAt history taken n (getD l a 0) q) where
+      module _ (f : Found) (found : NextStep history taken n (getD l a 0) f) (q : ℕ) (is : f ≡ At q) where
+        t : NextAt history taken n (getD l a 0) q
+        t = next-at history taken n (getD l a 0) f found q is
+
+        pub next-place : q < row-bits
+        next-place = omega (arith, t .inside, w .within)
+
         run-q : run H q ≡ getD l a 0
         run-q = getD-take n history q 0 (t .inside) ∙ t .runs
 
         inside : q < length H
-        inside = omega (arith, t .inside, size history n w)
+        inside = omega (arith, t .inside, history-length w)
 
         -- no place of the run before q is left
         next : Next H (take a l) q
@@ -213,9 +221,9 @@ module _ (history : List ℕ) (n : ℕ) where
         back : at l H a ≡ q
         back = ap (place-of H (getD l a 0)) ordinal-a ∙ ap (λ (s : ℕ). place-of H s (ordinal H q)) (sym run-q) ∙ place-of-back H q inside
 
-        pub agreed-more : Subset (bit-at dep q) (bit-at taken 0) true → (taken′ : List ℕ) → Marked taken taken′ 0 q → AgreedUpTo dep l taken′ (a + 1)
-        agreed-more s taken′ m = record {
-          places = record { sound = λ p j e. rw snoc (taken-next H (take a l) q p next j .1 (from p j e (ℕ-discrete p q))); complete = λ p j k. to p j (taken-next H (take a l) q p next j .0 (rw snoc at k)) };
+        pub agreed-more : (r : Bool) → Subset (bit-at dep q) (bit-at taken 0) r → not r ≡ false → (taken′ : List ℕ) → Marked taken taken′ 0 q → AgreedUpTo dep l taken′ (a + 1)
+        agreed-more r s yes-all taken′ m = record {
+          places = rw snoc (taken-added (omega (arith, history-length w, w .within)) (u .places) m (λ p j. taken-next H (take a l) q p next j));
           within = λ r. rw snoc (within-next H (take a l) q next (u .within) r);
           after = λ conflict marks k x j d. later conflict marks k x d (below-suc (rw (← add-one a) j));
         }
@@ -224,19 +232,7 @@ module _ (history : List ℕ) (n : ℕ) where
             snoc = let j : a < length l = omega arith in rw (add-one a, run-q) (take-suc l a 0 j)
 
             small : (p : ℕ) → p < length H → p < row-bits
-            small p j = omega (arith, size history n w, w .within)
-
-            from : (p : ℕ) → p < length H → bit-at taken′ 0 p ≡ 1 → Dec (p ≡ q) → Taken H (take a l) p ⊎ (p ≡ q)
-            from p j e (yes x) = inr x
-            from p j e (no x) = inl (u .places .sound p j (sym (m .other 0 p (small p j) (λ y. x (y .1))) ∙ e))
-
-            to : (p : ℕ) → p < length H → Taken H (take a l) p ⊎ (p ≡ q) → bit-at taken′ 0 p ≡ 1
-            to p j (inr x) = rw x (m .here)
-            to p j (inl k) = case (ℕ-discrete p q)
-              where
-                case : Dec (p ≡ q) → bit-at taken′ 0 p ≡ 1
-                case (yes x) = rw x (m .here)
-                case (no x) = m .other 0 p (small p j) (λ y. x (y .1)) ∙ u .places .complete p j k
+            small p j = omega (arith, history-length w, w .within)
 
             later : (conflict : ℕ → ℕ → ℕ → ℕ → Bool) → Marks (Depends conflict H) dep → (k x : ℕ) → Depends conflict H x (at l H k) → (k ≡ a) ⊎ (k < a) → Taken H (take k l) x
             later conflict marks k x d (inr j) = u .after conflict marks k x j d
@@ -244,10 +240,10 @@ module _ (history : List ℕ) (n : ℕ) where
                 let f : Depends conflict H x (at l H a) = rw (← e) d in
                 let g : Depends conflict H x q = rw back at f in
                 let j : x < length H = omega (arith, dep-lt conflict g, dep-inside conflict g) in
-                rw e (u .places .sound x j (s .sound refl x (small x j) (marks .complete x q (small x j) (small q inside) g)))
+                rw e (u .places .sound x j (s .sound (not-false r yes-all) x (small x j) (marks .complete x q (small x j) (small q inside) g)))
 
-        pub not-after : Subset (bit-at dep q) (bit-at taken 0) false → EquivalentBy history n dep l false
-        not-after s = record { answers = λ conflict marks. answer-no (λ e. false-true (s .complete (λ x j b. go conflict marks e x j b))) }
+        pub not-after : (r : Bool) → Subset (bit-at dep q) (bit-at taken 0) r → not r ≡ true → EquivalentBy history n dep l false
+        not-after r s not-all = record { answers = λ conflict marks. answer-no (λ e. false-true (sym (not-true r not-all) ∙ s .complete (λ x j b. go conflict marks e x j b))) }
           where
             same-a : Same H q l a
             same-a = record { runs = sym run-q; ordinals = ordinal-a }

@@ -1,2 +1,2 @@
--- The root of the specs of `evidence`. Inner is no part of the statement.
-pub mod Inner
+-- The checks promise what `classes` does of its tests, so there is no statement here: inner is no part of one.
+pub mod inner

@@ -3,7 +3,7 @@ use bits::Found;
 use bits::Row;
 use bits::Table;
 use book::Book;
-use classes::Reply;
+use classes::Tested;
 ghost use Prim.Native.Nat.{_<_, _≤_};
 ghost use mathlib.Core.Path.{_≡_};
 ghost use lib.ListN.{length};
@@ -12,10 +12,10 @@ ghost use Rattle.theory.specs.Graph.{Arc, Cycle};
 ghost use Rattle.book.specs.Format.{step-limit};
 ghost use Rattle.book.specs.Book.{Valid, contents-of};
 ghost use Rattle.book.specs.Meaning.{conflict-of, unit-of};
-ghost use Rattle.classes.specs.Reply.{Replies};
-ghost use Rattle.classes.specs.Inner.{History};
+ghost use Rattle.classes.specs.Tested.{TestedAs};
 ghost use Rattle.graph.specs.Answers.{Answers};
-ghost use Rattle.evidence.specs.Inner.{NextStep, EquivalentBy, Follows, CycleBy, ArcBy, with-order};
+ghost use Rattle.graph.specs.inner.Tables.{HistoryOf};
+ghost use Rattle.evidence.specs.inner.Tables.{NextStep, EquivalentBy, Follows, CycleBy, ArcBy};
 
 // The first place of run r that is not taken.
 fn next_step(history: &[u8; Book::STEPS], n: usize, taken: &Row, r: u8) -> Found
@@ -35,7 +35,7 @@ fn next_step(history: &[u8; Book::STEPS], n: usize, taken: &Row, r: u8) -> Found
 // Whether l is an order of the history that agrees with it on every conflicting pair: l's steps are taken in turn, each after all that it
 // depends on.
 fn equivalent_by(history: &[u8; Book::STEPS], n: usize, dep: &Table, l: &[u8]) -> bool
-    requires { ⌜ History (now history) n ⌝ }
+    requires { ⌜ HistoryOf (now history) n ⌝ }
     ensures { λ r. ⌜ EquivalentBy (now (history .entry)) n (now (dep .entry)) (now (l .entry)) r ⌝ }
 {
     if l.len() != n {
@@ -114,20 +114,6 @@ fn arc_by(arc: &Table, n: usize, x: usize, y: usize) -> bool
     bits::marked(arc, y, x)
 }
 
-// The book with l, a list as long as its history, in place of its history.
-fn with_order(b: Book, l: &[u8]) -> Book
-    requires { ⌜ (length (now l) ≤ step-limit) × (length (b .history) ≡ step-limit) ⌝ }
-    ensures { λ r. ⌜ r ≡ with-order b (now (l .entry)) ⌝ }
-{
-    let mut history = b.history;
-    for i in 0..l.len() {
-        history[i] = l[i];
-    }
-    let mut reordered = b;
-    reordered.history = history;
-    reordered
-}
-
 // Whether l is a relatively serial order of a valid book's history that agrees with it on all conflicting pairs.
 fn is_relatively_serial_order(b: Book, l: &[u8]) -> bool
     requires { ⌜ Valid b ⌝ }
@@ -139,7 +125,7 @@ fn is_relatively_serial_order(b: Book, l: &[u8]) -> bool
     if !equivalent_by(&history, b.done, &dep, l) {
         return false;
     }
-    let reordered = with_order(b, l);
+    let reordered = book::with_history(b, l);
     classes::is_relatively_serial(reordered)
 }
 
@@ -164,31 +150,28 @@ fn is_arc(b: Book, x: usize, y: usize) -> bool
 }
 
 // Whether the run numbers l are a relatively serial order of the book's history that agrees with it on all conflicting pairs.
-pub fn order_check(s: &[u8], l: &[u8]) -> Reply
-    ensures { λ r. ⌜ Replies (λ c. RelativelySerialOrder (conflict-of c) (unit-of c) (c .history) (now (l .entry))) (now (s .entry)) r ⌝ }
+pub fn order_check(s: &[u8], l: &[u8]) -> Tested
+    ensures { λ r. ⌜ TestedAs (λ c. RelativelySerialOrder (conflict-of c) (unit-of c) (c .history) (now (l .entry))) (now (s .entry)) r ⌝ }
 {
-    let reading = book::read(s);
+    let reading = reader::read(s);
     let answer = reading.answer;
-    let b = reading.book;
-    classes::reply_to(answer, is_relatively_serial_order(b, l))
+    classes::tested_by(answer, is_relatively_serial_order(reading.book, l))
 }
 
 // Whether the places are a cycle of the graph of the book's history.
-pub fn cycle_check(s: &[u8], places: &[u8]) -> Reply
-    ensures { λ r. ⌜ Replies (λ c. Cycle (conflict-of c) (unit-of c) (c .history) (now (places .entry))) (now (s .entry)) r ⌝ }
+pub fn cycle_check(s: &[u8], places: &[u8]) -> Tested
+    ensures { λ r. ⌜ TestedAs (λ c. Cycle (conflict-of c) (unit-of c) (c .history) (now (places .entry))) (now (s .entry)) r ⌝ }
 {
-    let reading = book::read(s);
+    let reading = reader::read(s);
     let answer = reading.answer;
-    let b = reading.book;
-    classes::reply_to(answer, is_cycle(b, places))
+    classes::tested_by(answer, is_cycle(reading.book, places))
 }
 
 // Whether an arc leads from the place x to the place y in the graph of the book's history.
-pub fn arc_test(s: &[u8], x: usize, y: usize) -> Reply
-    ensures { λ r. ⌜ Replies (λ c. Arc (conflict-of c) (unit-of c) (c .history) x y) (now (s .entry)) r ⌝ }
+pub fn arc_test(s: &[u8], x: usize, y: usize) -> Tested
+    ensures { λ r. ⌜ TestedAs (λ c. Arc (conflict-of c) (unit-of c) (c .history) x y) (now (s .entry)) r ⌝ }
 {
-    let reading = book::read(s);
+    let reading = reader::read(s);
     let answer = reading.answer;
-    let b = reading.book;
-    classes::reply_to(answer, is_arc(b, x, y))
+    classes::tested_by(answer, is_arc(reading.book, x, y))
 }

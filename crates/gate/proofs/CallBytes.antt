@@ -18,7 +18,7 @@ use Rattle.book.proofs.Books.{history-long, done-few}
 use Rattle.gate.specs.Plain.{Call, step, withdraw, Answer, place, withdrawn, refused, State, PlainCall, step-refused, step-tangled, step-kept, withdraw-refused, withdraws}
 use Rattle.gate.specs.Gate.{answer-of, Sound, CalledAs}
 use Rattle.gate.specs.Replay.{is-call, call-of, calls-of, bad-at, answer-bytes, answers-bytes, answers-in}
-use Rattle.gate.specs.Inner.{Low, BytesOf}
+use Rattle.gate.specs.inner.Calls.{Low, BytesOf}
 use Rattle.gate.specs.declared.Gate.{Gate}
 use Rattle.gate.specs.declared.Reply.{Reply}
 use Rattle.gate.specs.declared.Reply.the-variants.{Place, Withdrawn, Refused}
@@ -118,7 +118,7 @@ place-is p (withdraw-refused w) e = let z : _≡_ {A = ℕ} 0 1 = cc in absurd (
 place-is p (withdraws o) e = let z : _≡_ {A = ℕ} 0 1 = cc in absurd (omega arith)
 
 pub answer-low : (g h : Gate) (x : Call) (a : Reply) → Sound g → CalledAs g x a h → Low a
-answer-low g h x a y w = record { place-low = λ p e. omega (arith, place-is p (w .plain) (ap answer-of e), history-long (g .book) (y .valid), done-few (g .book) (y .valid), y .valid .few-steps) }
+answer-low g h x a y w = record { place-low = λ p e. omega (arith, place-is p (w .plain) (ap answer-of e), history-long (g .book) (y .valid), done-few (g .book) (y .valid), y .valid .runs .few-steps) }
 
 -- ---- many answers
 

@@ -5,7 +5,7 @@ use mathlib.Core.Path.{_≡_, refl, ap, _∙_}
 use mathlib.Core.List.{List, [], _∷_, _++_}
 use lib.ListN.{length}
 use Rattle.book.specs.Format.{Bytes, Contents, accepted, read}
-use Rattle.writer.specs.Render.{with-history}
+use Rattle.book.specs.Format.{with-history}
 use Rattle.gate.specs.Plain.{Call, Answer, newly-opened, PlainCalls, PlainCall}
 use Rattle.gate.specs.Plain.{none as no-calls, next as next-call}
 use Rattle.gate.specs.Demand.{Demand3}
@@ -33,7 +33,7 @@ pub opened-plain : (s : List ℕ) (c : Contents) (o : Opened) (calls : List Call
 opened-plain s c o calls answers g e w k = rw (← w .state) (chain-plain c k (w .book ∙ ap opened-book e))
 
 pub demand-3 : (s : List ℕ) (c : Contents) → Bytes s → read s ≡ accepted c → (o : Opened) → OpenedAs (read s) o
-    → (calls : List Call) (answers : List Answer) (g : Gate) → Chain (o .gate) calls answers g → Demand3 c calls answers (state-of g)
+    → (calls : List Call) (answers : List Answer) (g : Gate) → Chain (o .gate) calls answers g → Demand3 s c calls answers (state-of g)
 demand-3 s c bytes e o w calls answers g k = plain-demand c s bytes e calls answers (state-of g) (opened-plain s c o calls answers g e w k)
 
 -- ---- one call more

@@ -12,9 +12,10 @@ use Rattle.book.specs.Meaning.{conflict-of, unit-of}
 use Rattle.book.specs.Numbers.{number}
 use Rattle.book.specs.declared.Cause.{Cause}
 use Rattle.book.specs.declared.Cause.the-variants.{Tangled}
-use Rattle.writer.specs.Render.{render, with-history}
-use Rattle.writer.proofs.RoundTrip.{accepted-book, render-bytes, read-with-history}
-use Rattle.writer.proofs.Histories.{history-book}
+use Rattle.book.specs.Format.{with-history}
+use Rattle.book.specs.Render.{render}
+use Rattle.book.proofs.RoundTrip.{accepted-book, render-read, render-bytes, read-with-history}
+use Rattle.book.proofs.Histories.{history-book}
 use Rattle.judge.specs.Judged.{JudgedAs}
 use Rattle.judge.specs.Judge.{OutcomeJudged}
 use Rattle.judge.specs.declared.Verdict.{Verdict}
@@ -32,8 +33,9 @@ judged-passes c k order order′ cycle cycle′ s (Refused cause at) n j = absur
 judged-passes c k order order′ cycle cycle′ s Passed n j = refl
 judged-passes c k order order′ cycle cycle′ s JudgeTangled n j = absurd (j .not-serializable s)
 
-judge-passes : (s : List ℕ) (c : Contents) → Bytes s → read s ≡ accepted c → (k : List ℕ) → Passing c k → JudgePasses c k
+judge-passes : (s : List ℕ) (c : Contents) → Bytes s → read s ≡ accepted c → (k : List ℕ) → Passing c k → JudgePasses s c k
 judge-passes s c bytes e k w = record {
+  book-is = render-read s c bytes e;
   bytes = render-bytes (with-history c k) (history-book c k (accepted-book s c bytes e) (w .allowed));
   reads = reads;
   passes = λ order order′ cycle cycle′ r m n j.
@@ -113,7 +115,7 @@ module _ (c : Contents) where
   passing-calls (next p ps) w = passing-calls ps (passing-call c p w)
 
   pub plain-demand : (s : List ℕ) → Bytes s → read s ≡ accepted c → (calls : List Call) (answers : List Answer) (g : State) → PlainCalls c newly-opened calls answers g
-      → Demand3 c calls answers g
+      → Demand3 s c calls answers g
   plain-demand s bytes e calls answers g ps = record {
     plain = ps;
     answers-equal = λ bs h qs. single-calls c ps qs .0;

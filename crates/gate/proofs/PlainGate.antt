@@ -10,9 +10,11 @@ use mathlib.Core.Bool.{Bool, true, false}
 use mathlib.Core.List.{List, [], _∷_, _++_}
 use lib.ListN.{length, getD}
 use lib.Dec.{eqb, ltb}
+use borrow.Author.Tests.{eq-eqb}
 use Rattle.theory.specs.History.{count, suc-if}
 use Rattle.theory.specs.Relative.{RelativelySerializable}
-use Rattle.theory.proofs.Places.{Compared, eq-cases, eqb-of-eq, count-snoc}
+use Rattle.theory.proofs.Lists.{count-snoc}
+use Rattle.theory.proofs.Places.{Compared, eq-cases}
 use Rattle.theory.proofs.Within.{tangled-stays}
 use Rattle.theory.proofs.Theorem.{dec-relatively-serializable}
 use Rattle.theory.proofs.DeckLaws.{lawful}
@@ -20,7 +22,7 @@ use Rattle.book.specs.Format.{Contents, lengths, pick}
 use Rattle.book.specs.Meaning.{conflict-of, unit-of}
 use Rattle.book.specs.Numbers.{number}
 use Rattle.book.specs.declared.Cause.{Cause}
-use Rattle.writer.specs.Render.{with-history, Allowed}
+use Rattle.book.specs.Format.{with-history, Allowed}
 use Rattle.gate.specs.Plain.{Call, step, withdraw, Answer, withdrawn, refused, State, In, insert, Eligible, Refusal, not-declared, was-withdrawn, all-kept, IsTangled, PlainCall, step-refused, step-tangled, step-kept, withdraw-refused, withdraws, PlainCalls, none, next}
 
 -- ---- single-valued
@@ -155,7 +157,7 @@ count-insert r q (x ∷ w) = go (ltb q x) (eqb q x) (count-insert r q w)
     go false false l = up (eqb x r) l
 
 pub in-insert : (r : ℕ) (w : List ℕ) → In r (insert r w)
-in-insert r [] = rw (eqb-of-eq r r refl) (omega arith)
+in-insert r [] = rw (eq-eqb r r refl) (omega arith)
 in-insert r (x ∷ w) = go (ltb r x) (eq-cases r x) (in-insert r w)
   where
     more : (b : Bool) {n : ℕ} → 0 < n → 0 < suc-if b n
@@ -163,8 +165,8 @@ in-insert r (x ∷ w) = go (ltb r x) (eq-cases r x) (in-insert r w)
     more false l = l
 
     go : (b : Bool) → Compared r x → In r (insert r w) → In r (pick b (r ∷ x ∷ w) (pick (eqb r x) (x ∷ w) (x ∷ insert r w)))
-    go true e i = rw (eqb-of-eq r r refl) (omega arith)
-    go false (inl e) i = rw (e .0, eqb-of-eq x r (sym (e .1))) (omega arith)
+    go true e i = rw (eq-eqb r r refl) (omega arith)
+    go false (inl e) i = rw (e .0, eq-eqb x r (sym (e .1))) (omega arith)
     go false (inr e) i = rw (e .0) (more (eqb x r) i)
 
 module _ (c : Contents) where

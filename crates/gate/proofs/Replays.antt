@@ -13,18 +13,19 @@ use lib.Seq.{take-suc, take-all, set-at, take-at, length-take-le}
 use Rattle.book.specs.Format.{Contents, Outcome, pick, read}
 use Rattle.book.specs.Format.{refused as book-refused, accepted as book-accepted}
 use Rattle.book.specs.declared.Cause.{Cause}
+use Rattle.book.specs.declared.Cause.the-variants.{NoCall, AnswersShort}
 use Rattle.book.specs.declared.Answer.the-variants.{Refused as BookRefused, Accepted as BookAccepted}
 use Rattle.gate.specs.Plain.{step}
 use Rattle.gate.specs.Gate.{answer-of, opening-answer, Sound, OpenedAs, CalledAs}
 use Rattle.gate.specs.Chain.{none}
 use Rattle.gate.specs.Replay.{is-call, call-of, calls-of, bad-at, answers-bytes, answers-in, played-by, Replays}
-use Rattle.gate.specs.Inner.{BytesOf, AnswersRoom, Plays}
+use Rattle.gate.specs.inner.Calls.{BytesOf, AnswersRoom, Plays}
 use Rattle.gate.specs.declared.Gate.{Gate}
 use Rattle.gate.specs.declared.Opened.{Opened}
 use Rattle.gate.specs.declared.Called.{Called}
 use Rattle.gate.specs.declared.AnswerBytes.{AnswerBytes}
 use Rattle.gate.specs.declared.Played.{Played}
-use Rattle.gate.specs.declared.Played.the-variants.{Refused, BadCall, AnswersShort, Done}
+use Rattle.gate.specs.declared.Played.the-variants.{Refused, Done}
 use Rattle.gate.proofs.PlainGate.{single-calls}
 use Rattle.gate.proofs.Chained.{chain-book, opened-plain, demand-3, chain-snoc, chain-length}
 use Rattle.gate.proofs.CallBytes.{length-calls, call-at, drop-two, answers-snoc, answers-length, answers-back}
@@ -149,17 +150,17 @@ module _ (s bs b : List ℕ) (o : Opened) (w : OpenedAs (read s) o) where
     is-read : (c : Contents) × (read s ≡ book-accepted c)
     is-read = accepted-of (read s) (sym e ∙ w .answer)
 
-    pub replay-bad : (at ≡ length bs → ⊥) → Replays s bs b b (record { played = BadCall at; gate = o .gate })
+    pub replay-bad : (at ≡ length bs → ⊥) → Replays s bs b b (record { played = Refused NoCall at; gate = o .gate })
     replay-bad h =
-        stops (BadCall at) (rw (is-read .1, ← scanned, ne-eqb at (length bs) h)) (λ n q. let z : _≡_ {A = ℕ} 0 1 = cc in omega arith)
+        stops (Refused NoCall at) (rw (is-read .1, ← scanned, ne-eqb at (length bs) h)) (λ n q. let z : _≡_ {A = ℕ} 0 1 = cc in omega arith)
 
     module _ (h : at ≡ length bs) where
       two-each : length bs ≡ 2 * length (calls-of bs)
       two-each = whole-calls 0 bs (omega arith)
 
-      pub replay-short : length b < length bs → Replays s bs b b (record { played = AnswersShort; gate = o .gate })
+      pub replay-short : length b < length bs → Replays s bs b b (record { played = Refused AnswersShort 0; gate = o .gate })
       replay-short l =
-          stops AnswersShort (rw (is-read .1, ← scanned, eq-eqb at (length bs) h, lt-leb (2 * length (calls-of bs)) (length b) (omega (arith, two-each))))
+          stops (Refused AnswersShort 0) (rw (is-read .1, ← scanned, eq-eqb at (length bs) h, lt-leb (2 * length (calls-of bs)) (length b) (omega (arith, two-each))))
           (λ n q. let z : _≡_ {A = ℕ} 0 1 = cc in omega arith)
 
       pub replay-room : length bs ≤ length b → AnswersRoom (o .gate) (calls-of bs) b

@@ -10,7 +10,7 @@ use Rattle.book.specs.Book.{contents-of}
 use Rattle.book.specs.declared.Book.{Book}
 use Rattle.book.specs.declared.Cause.{Cause}
 use Rattle.book.proofs.Determined.{flags-same, determined}
-use Rattle.writer.specs.Render.{with-history}
+use Rattle.book.specs.Format.{with-history}
 use Rattle.gate.specs.Plain.{Call, Answer, refused, State, PlainCall, step-refused, step-tangled, step-kept, withdraw-refused, withdraws}
 use Rattle.gate.specs.Gate.{book-of, state-of, Sound, CalledAs}
 use Rattle.gate.specs.declared.Gate.{Gate}

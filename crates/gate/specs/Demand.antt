@@ -7,7 +7,8 @@ use lib.ListN.{length, take}
 use Rattle.book.specs.Format.{Bytes, Contents, accepted, step-limit, read}
 use Rattle.book.specs.Numbers.{number}
 use Rattle.book.specs.declared.Cause.the-variants.{Tangled}
-use Rattle.writer.specs.Render.{render, with-history}
+use Rattle.book.specs.Format.{with-history}
+use Rattle.book.specs.Render.{render}
 use Rattle.judge.specs.Judge.{BytesJudged}
 use Rattle.judge.specs.declared.Judgement.{Judgement}
 use Rattle.judge.specs.declared.Verdict.the-variants.{Passed}
@@ -18,11 +19,14 @@ pub data At {A : Type 0} : List A → ℕ → A → Type 0 where
   here : {x : A} {l : List A} → At (x ∷ l) zero x
   there : {x y : A} {l : List A} {i : ℕ} → At l i x → At (y ∷ l) (suc i) x
 
--- the judge passes the book with k as its history: the bytes of that book are an accepted book, and on them, with buffers as long as the
--- judge asks, each judgement that meets the judge's contract is "passed"
-pub record JudgePasses (c : Contents) (k : List ℕ) : Type 0 where
+-- the judge passes the book s, of contents c, with k as its history
+pub record JudgePasses (s : List ℕ) (c : Contents) (k : List ℕ) : Type 0 where
+  -- s is the rendering of c, so that the book with k as its history has the other commands of s;
+  pub book-is : render c ≡ s
+  -- its bytes are an accepted book,
   pub bytes : Bytes (render (with-history c k))
   pub reads : read (render (with-history c k)) ≡ accepted (with-history c k)
+  -- and on them, with buffers as long as the judge asks, each judgement that meets the judge's contract is "passed"
   pub passes : (order order′ cycle cycle′ : List ℕ) (r : Judgement) → step-limit ≤ length order → step-limit ≤ length cycle
       → BytesJudged order order′ cycle cycle′ (render (with-history c k)) r → r .verdict ≡ Passed
 
@@ -35,15 +39,15 @@ pub record Moment (c : Contents) (calls : List Call) (i : ℕ) (m : State) : Typ
 abbrev pub Admitted : List Answer → ℕ → Type 0
 Admitted answers j = (p : ℕ) × At answers j (place p)
 
--- of the contents of the book, the calls, their answers, and the state after them
-pub record Demand3 (c : Contents) (calls : List Call) (answers : List Answer) (g : State) : Type 0 where
+-- of the book's bytes and contents, the calls, their answers, and the state after them
+pub record Demand3 (s : List ℕ) (c : Contents) (calls : List Call) (answers : List Answer) (g : State) : Type 0 where
   -- The answers in order, the kept list and the withdrawn runs equal those of document 01's plain gate given the same calls.
   pub plain : PlainCalls c newly-opened calls answers g
   pub answers-equal : (bs : List Answer) (h : State) → PlainCalls c newly-opened calls bs h → answers ≡ bs
   pub kept-equal : (bs : List Answer) (h : State) → PlainCalls c newly-opened calls bs h → g .kept ≡ h .kept
   pub withdrawn-equal : (bs : List Answer) (h : State) → PlainCalls c newly-opened calls bs h → g .withdrawn ≡ h .withdrawn
   -- The judge passes the book with the kept list as its history.
-  pub judge-passes : JudgePasses c (g .kept)
+  pub judge-passes : JudgePasses s c (g .kept)
   -- A step call whose run was declared, not withdrawn and had a step left was refused, as tangled, exactly when no relatively serial order of
   -- that moment's kept list extended by that step agrees with the extended list on every conflicting pair.
   pub tangled-exactly : (i r : ℕ) (m : State) → At calls i (step r) → Moment c calls i m → Eligible c m r

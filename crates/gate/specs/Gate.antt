@@ -3,11 +3,11 @@ use mathlib.Core.Path.{_≡_}
 use mathlib.Core.List.{[]}
 use Rattle.book.specs.Format.{Contents, Outcome, run-limit, nothing}
 use Rattle.book.specs.Format.{refused as book-refused, accepted as book-accepted}
-use Rattle.book.specs.Numbers.{number}
-use Rattle.book.specs.Book.{marked, contents-of, Flags, Valid}
+use Rattle.book.specs.Numbers.{number, Numbers, refused-with, value-of}
+use Rattle.book.specs.Book.{flagged, contents-of, Flags, Valid}
 use Rattle.book.specs.declared.Answer.{Answer as BookAnswer}
 use Rattle.book.specs.declared.Answer.the-variants.{Refused as BookRefused, Accepted as BookAccepted}
-use Rattle.writer.specs.Render.{with-history}
+use Rattle.book.specs.Format.{with-history}
 use Rattle.gate.specs.Plain.{Call, Answer, place, withdrawn, refused, State, newly-opened, PlainCall}
 use Rattle.gate.specs.declared.Reply.{Reply}
 use Rattle.gate.specs.declared.Reply.the-variants.{Place, Withdrawn, Refused}
@@ -20,13 +20,19 @@ answer-of (Place p) = place p
 answer-of Withdrawn = withdrawn
 answer-of (Refused cause) = refused (number cause)
 
+-- each case in numbers: the place of an admitted step; a withdrawal has no value; 20 to 23 with the number only
+abbrev pub reply-numbers : Reply → Numbers
+reply-numbers (Place p) = value-of p
+reply-numbers Withdrawn = value-of 0
+reply-numbers (Refused cause) = refused-with cause 0
+
 -- the record's book, whose own history plays no part
 abbrev pub book-of : Gate → Contents
 book-of g = with-history (contents-of (g .book)) []
 
 -- the record's kept list is the history of its book, and its withdrawn runs are those whose flag is not 0
 abbrev pub state-of : Gate → State
-state-of g = record { kept = contents-of (g .book) .history; withdrawn = marked 0 (g .withdrawn) }
+state-of g = record { kept = contents-of (g .book) .history; withdrawn = flagged 0 (g .withdrawn) }
 
 -- holds of every record that opening and the calls return; it is all that the calls ask of a record
 pub record Sound (g : Gate) : Type 0 where
@@ -37,6 +43,11 @@ pub record Sound (g : Gate) : Type 0 where
 abbrev pub opening-answer : Outcome → BookAnswer
 opening-answer (book-refused cause at) = BookRefused cause at
 opening-answer (book-accepted c) = BookAccepted
+
+-- each case in numbers: an opened gate has no value
+abbrev pub opening-numbers : BookAnswer → Numbers
+opening-numbers (BookRefused cause at) = refused-with cause at
+opening-numbers BookAccepted = value-of 0
 
 abbrev pub opened-book : Outcome → Contents
 opened-book (book-refused cause at) = nothing

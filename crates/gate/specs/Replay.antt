@@ -1,5 +1,4 @@
--- A whole list of calls in bytes on a gate newly opened over a book, and its answers in bytes. The byte forms and the numbers 24 and 25 are
--- this call's own.
+-- A whole list of calls in bytes on a gate newly opened over a book, and its answers in bytes. The byte forms are this call's own.
 use Prim.Native.Nat.{ℕ, _+_, _*_}
 use mathlib.Core.Path.{_≡_}
 use mathlib.Core.Logic.{_≢_}
@@ -9,12 +8,14 @@ use lib.ListN.{length, take, drop}
 use lib.Dec.{eqb, leb}
 use Rattle.book.specs.Format.{Contents, Outcome, pick, read}
 use Rattle.book.specs.Format.{refused as book-refused, accepted as book-accepted}
+use Rattle.book.specs.Numbers.{Numbers, refused-with, value-of}
+use Rattle.book.specs.declared.Cause.the-variants.{NoCall, AnswersShort}
 use Rattle.gate.specs.Plain.{Call, step, withdraw, Answer, place, withdrawn, refused, State, newly-opened, PlainCalls}
 use Rattle.gate.specs.Demand.{Demand3}
 use Rattle.gate.specs.Gate.{book-of, state-of, opened-book, Sound}
 use Rattle.gate.specs.declared.Gate.{Gate}
 use Rattle.gate.specs.declared.Played.{Played}
-use Rattle.gate.specs.declared.Played.the-variants.{Refused, BadCall, AnswersShort, Done}
+use Rattle.gate.specs.declared.Played.the-variants.{Refused, Done}
 use Rattle.gate.specs.declared.Replayed.{Replayed}
 
 -- two bytes a call (hexadecimal): 53 r steps run r, 57 r withdraws it
@@ -54,13 +55,19 @@ answers-in [] = []
 answers-in (k ∷ []) = []
 answers-in (k ∷ x ∷ bs) = answer-in k x ∷ answers-in bs
 
--- the answer for the calls bs and a buffer of n bytes, of the outcome of reading the book: 1 to 11 come first, then 24, then 25
+-- each case in numbers: the number of calls made
+abbrev pub played-numbers : Played → Numbers
+played-numbers (Refused cause at) = refused-with cause at
+played-numbers (Done n) = value-of n
+
+-- the answer for the calls bs and a buffer of n bytes, of the outcome of reading the book: 1 to 11 come first, then 24 at its
+-- offset of the list, then 25
 abbrev pub played-by : Outcome → List ℕ → ℕ → Played
 played-by (book-refused cause at) bs n = Refused cause at
 played-by (book-accepted c) bs n =
     pick (eqb (bad-at 0 bs) (length bs))
-    (pick (leb (2 * length (calls-of bs)) n) (Done (length (calls-of bs))) AnswersShort)
-    (BadCall (bad-at 0 bs))
+    (pick (leb (2 * length (calls-of bs)) n) (Done (length (calls-of bs))) (Refused AnswersShort 0))
+    (Refused NoCall (bad-at 0 bs))
 
 -- nothing is changed: the buffer's bytes are as before, and the gate is newly opened
 pub record Unchanged (before after : List ℕ) (g : Gate) : Type 0 where
@@ -69,10 +76,10 @@ pub record Unchanged (before after : List ℕ) (g : Gate) : Type 0 where
 
 -- all calls are made: the buffer begins with the plain gate's answers, its other bytes are as before, and demand 3 holds of the answers in the
 -- buffer and of the record g
-pub record CallsMade (c : Contents) (bs before after : List ℕ) (g : Gate) : Type 0 where
+pub record CallsMade (s : List ℕ) (c : Contents) (bs before after : List ℕ) (g : Gate) : Type 0 where
   pub buffer : (answers : List Answer) (h : State) → PlainCalls c newly-opened (calls-of bs) answers h
       → after ≡ answers-bytes answers ++ drop (2 * length (calls-of bs)) before
-  pub demand : Demand3 c (calls-of bs) (answers-in (take (2 * length (calls-of bs)) after)) (state-of g)
+  pub demand : Demand3 s c (calls-of bs) (answers-in (take (2 * length (calls-of bs)) after)) (state-of g)
 
 -- what a replay of the calls bs over the book s promises
 pub record Replays (s bs before after : List ℕ) (r : Replayed) : Type 0 where
@@ -80,4 +87,4 @@ pub record Replays (s bs before after : List ℕ) (r : Replayed) : Type 0 where
   pub book : book-of (r .gate) ≡ opened-book (read s)
   pub sound : Sound (r .gate)
   pub refused-unchanged : ((n : ℕ) → r .played ≢ Done n) → Unchanged before after (r .gate)
-  pub calls-made : (c : Contents) (n : ℕ) → read s ≡ book-accepted c → r .played ≡ Done n → CallsMade c bs before after (r .gate)
+  pub calls-made : (c : Contents) (n : ℕ) → read s ≡ book-accepted c → r .played ≡ Done n → CallsMade s c bs before after (r .gate)

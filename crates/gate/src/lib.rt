@@ -2,17 +2,16 @@
 ghost use mathlib.Core.Path.{_≡_};
 ghost use Prim.Native.Nat.{_≤_};
 ghost use mathlib.Core.List.{[]};
-ghost use Rattle.book.specs.Format.{run-limit, add-done, read};
+ghost use Rattle.book.specs.Format.{run-limit, done, effect, read};
 ghost use Rattle.book.specs.Book.{Represents, contents-of, Valid};
-ghost use Rattle.writer.specs.Render.{with-history};
+ghost use Rattle.book.specs.Format.{with-history};
 ghost use Rattle.gate.specs.Plain.{step as step-call, withdraw as withdraw-call};
 ghost use Rattle.gate.specs.Gate.{Sound, OpenedAs, CalledAs};
 ghost use Rattle.gate.specs.Replay.{call-of, calls-of, bad-at, Replays};
-ghost use Rattle.gate.specs.Inner.{EligibilityIn, StepLeft, Passes, Low, BytesOf, AnswersRoom, Plays};
+ghost use Rattle.gate.specs.inner.Calls.{EligibilityIn, StepLeft, Low, BytesOf, AnswersRoom, Plays};
 use book::Answer;
 use book::Book;
 use book::Cause;
-use judge::Verdict;
 
 // The book, whose history is the kept list, and a flag for each run: 1 once it is withdrawn, else 0.
 #[repr(C)]
@@ -41,27 +40,14 @@ pub struct Opened {
     pub gate: Gate,
 }
 
-// The book without its history.
-fn without_history(mut b: Book) -> Book
-    requires { ⌜ Valid b ⌝ }
-    ensures { λ r. ⌜ Represents (with-history (contents-of b) []) r ⌝ }
-{
-    let dones = [0u8; Book::RUNS];
-    let history = [0u8; Book::STEPS];
-    b.dones = dones;
-    b.history = history;
-    b.done = 0;
-    b
-}
-
 // Opens a gate over a book: no step is kept, no run withdrawn.
 pub fn open(s: &[u8]) -> Opened
     ensures { λ r. ⌜ OpenedAs (read (now (s .entry))) r ⌝ }
 {
-    let reading = book::read(s);
+    let reading = reader::read(s);
     let answer = reading.answer;
     let whole = reading.book;
-    let b = without_history(whole);
+    let b = book::with_history(whole, b"");
     let withdrawn = [0u8; Book::RUNS];
     Opened {
         answer,
@@ -77,13 +63,13 @@ enum Eligibility {
 
 fn eligibility_of<'a>(
     runs: usize,
-    lens: &'a [u8; Book::RUNS],
-    dones: &'a [u8; Book::RUNS],
+    lengths: &'a [u8; Book::RUNS],
+    counts: &'a [u8; Book::RUNS],
     withdrawn: &'a [u8; Book::RUNS],
     i: usize,
 ) -> Eligibility
     requires { ⌜ runs ≤ run-limit ⌝ }
-    ensures { λ r. ⌜ EligibilityIn runs (now (lens .entry)) (now (dones .entry)) (now (withdrawn .entry)) i r ⌝ }
+    ensures { λ r. ⌜ EligibilityIn runs (now (lengths .entry)) (now (counts .entry)) (now (withdrawn .entry)) i r ⌝ }
 {
     if i >= runs {
         return Eligibility::Refused(Cause::NotDeclared);
@@ -91,7 +77,7 @@ fn eligibility_of<'a>(
     if withdrawn[i] != 0 {
         return Eligibility::Refused(Cause::Withdrawn);
     }
-    if dones[i] >= lens[i] {
+    if counts[i] >= lengths[i] {
         return Eligibility::Refused(Cause::AllKept);
     }
     Eligibility::Eligible
@@ -100,31 +86,15 @@ fn eligibility_of<'a>(
 // The book with one more step of run r done.
 fn with_step(mut b: Book, r: u8) -> Book
     requires { ⌜ StepLeft b r ⌝ }
-    ensures { λ x. ⌜ Represents (add-done (contents-of b) r) x ⌝ }
+    ensures { λ x. ⌜ Represents (effect (done r) (contents-of b)) x ⌝ }
 {
     let i = book::wide(r);
     let n = b.done;
-    let k = b.dones[i];
+    let k = b.counts[i];
     b.history[n] = r;
-    b.dones[i] = k + 1;
+    b.counts[i] = k + 1;
     b.done = n + 1;
     b
-}
-
-// Whether the judge passes the book's history.
-fn passes(b: Book) -> bool
-    requires { ⌜ Valid b ⌝ }
-    ensures { λ r. ⌜ Passes (contents-of b) r ⌝ }
-{
-    let mut order = [0u8; Book::STEPS];
-    let mut cycle = [0u8; Book::STEPS];
-    let j = judge::judge_book(b, &mut order, &mut cycle);
-    let verdict = j.verdict;
-    match verdict {
-        Verdict::Passed => true,
-        Verdict::Tangled => false,
-        Verdict::Refused(_, _) => false,
-    }
 }
 
 // Step r on a record by value.
@@ -135,7 +105,7 @@ fn step_value(g: Gate, r: u8) -> Called
     let b = g.book;
     let withdrawn = g.withdrawn;
     let i = book::wide(r);
-    match eligibility_of(b.runs, &b.lens, &b.dones, &withdrawn, i) {
+    match eligibility_of(b.declared, &b.lengths, &b.counts, &withdrawn, i) {
         Eligibility::Refused(cause) => {
             return Called {
                 answer: Reply::Refused(cause),
@@ -145,7 +115,7 @@ fn step_value(g: Gate, r: u8) -> Called
         Eligibility::Eligible => {
             let place = b.done;
             let longer = with_step(b, r);
-            if passes(longer) {
+            if judge::passes(longer) {
                 return Called {
                     answer: Reply::Place(place),
                     gate: Gate {
@@ -170,7 +140,7 @@ fn withdraw_value(g: Gate, r: u8) -> Called
     let b = g.book;
     let withdrawn = g.withdrawn;
     let i = book::wide(r);
-    match eligibility_of(b.runs, &b.lens, &b.dones, &withdrawn, i) {
+    match eligibility_of(b.declared, &b.lengths, &b.counts, &withdrawn, i) {
         Eligibility::Refused(cause) => {
             return Called {
                 answer: Reply::Refused(cause),
@@ -311,12 +281,8 @@ fn play(g: Gate, calls: &[u8], answers: &mut [u8]) -> Gate
 
 // What a replay answers.
 pub enum Played {
-    // The book is refused: the cause and the place.
+    // The cause; its place in the book, or for 24 its offset in the list.
     Refused(Cause, usize),
-    // 24: at this offset of the list is no call, or a cut-off one.
-    BadCall(usize),
-    // 25: the buffer has fewer than two bytes an answer.
-    AnswersShort,
     // All calls are made, so many.
     Done(usize),
 }
@@ -345,14 +311,14 @@ pub fn replay(book: &[u8], calls: &[u8], answers: &mut [u8]) -> Replayed
             let at = bad_call(calls);
             if at != calls.len() {
                 return Replayed {
-                    played: Played::BadCall(at),
+                    played: Played::Refused(Cause::NoCall, at),
                     gate: g,
                 };
             }
             let n = calls.len() / 2;
             if answers.len() < calls.len() {
                 return Replayed {
-                    played: Played::AnswersShort,
+                    played: Played::Refused(Cause::AnswersShort, 0),
                     gate: g,
                 };
             }

@@ -39,8 +39,6 @@ fn main() {
     let played = replayed.played;
     match played {
         Played::Done(_) => write_answers(&answers),
-        Played::Refused(cause, _) => write_line(b"book refused by ", book::number_of(cause)),
-        Played::BadCall(_) => write_line(b"calls refused by ", 24),
-        Played::AnswersShort => write_line(b"calls refused by ", 25),
+        Played::Refused(cause, _) => write_line(b"refused by ", book::number_of(cause)),
     }
 }

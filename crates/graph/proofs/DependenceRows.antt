@@ -17,7 +17,7 @@ use Rattle.theory.proofs.Steps.{dep-inside}
 use Rattle.graph.specs.Answers.{Answers}
 use Rattle.graph.specs.Marks.{Marks}
 use Rattle.graph.specs.Dependence.{DependsSoFar, Links, StepsRead, StepRead}
-use Rattle.graph.specs.Tables.{Fresh}
+use Rattle.graph.specs.inner.Tables.{Fresh}
 use Rattle.graph.proofs.Counting.{low, clash, below-next}
 
 pub dep-trans : {conflict : ℕ → ℕ → ℕ → ℕ → Bool} {h : List ℕ} {x k q : ℕ} → Depends conflict h x k → Depends conflict h k q → Depends conflict h x q

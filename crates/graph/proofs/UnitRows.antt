@@ -11,14 +11,15 @@ use lib.Seq.{getD-set-same, getD-set-other}
 use Rattle.theory.specs.History.{count, run, ordinal}
 use Rattle.theory.specs.Relative.{InUnit}
 use Rattle.theory.specs.Graph.{FirstOf, LastOf, ArcI}
-use Rattle.theory.proofs.Places.{place-of, place-of-spec, place-of-ordinal, ordinal-lt, ordinal-mono}
+use Rattle.theory.specs.inner.Places.{place-of}
+use Rattle.theory.proofs.Places.{place-of-spec, place-of-ordinal, ordinal-lt, ordinal-mono}
 use Rattle.theory.proofs.Steps.{unit-refl, unit-sym}
 use Rattle.book.specs.Format.{run-limit, run-step-limit, step-limit}
-use Rattle.graph.specs.Units.{units-size, Each, Kept}
+use Rattle.graph.specs.Units.{units-size, Each, UnchangedFrom}
 use Rattle.book.specs.Book.{run-cuts}
-use Rattle.graph.specs.Tables.{places-size, HistoryOf, Numbering, Counts, CutsOf, EachBy, RowRoom, RowSet, by-flag, copied-row}
+use Rattle.graph.specs.inner.Tables.{places-size, HistoryOf, Numbering, Counts, CutsOf, EachBy, RowRoom, RowSet, by-flag, copied-row}
 use Rattle.graph.proofs.UnitSteps.{first-from, last-from}
-use Rattle.graph.proofs.Counting.{low, below-next, flag-none, flag-some, hist-length, hist-run}
+use Rattle.graph.proofs.Counting.{low, below-next, flag-none, flag-some, history-length, history-run}
 
 -- ---- a row, an entry for each run
 
@@ -77,13 +78,13 @@ module _ {E : ℕ → ℕ → ℕ → Type 0} {a b p : ℕ} {t u : List ℕ} {v 
       go k o ha hb ho (yes y) = row-here k o ho y
       go k o ha hb ho (no n) = other-row k o (omega arith) hb ho n
 
-pub kept-none : (n : ℕ) (t : List ℕ) → Kept n t t
+pub kept-none : (n : ℕ) (t : List ℕ) → UnchangedFrom n t t
 kept-none n t = record { at = λ p o l ho. refl }
 
-pub kept-row : (n p : ℕ) (t u v y : List ℕ) (w : ℕ → ℕ) → Kept n t u → p < n → RowSet u v p w run-limit → y ≡ v → Kept n t y
+pub kept-row : (n p : ℕ) (t u v y : List ℕ) (w : ℕ → ℕ) → UnchangedFrom n t u → p < n → RowSet u v p w run-limit → y ≡ v → UnchangedFrom n t y
 kept-row n p t u v y w k i r e = rw e (record { at = λ a o l ho. r .others a o ho (λ z. omega arith) ∙ k .at a o l ho })
 
-pub kept-down : (n p : ℕ) (t u v : List ℕ) (w : ℕ → ℕ) → Kept n t u → 0 < p → p ≤ n → RowSet u v (p - 1) w run-limit → Kept n t v
+pub kept-down : (n p : ℕ) (t u v : List ℕ) (w : ℕ → ℕ) → UnchangedFrom n t u → 0 < p → p ≤ n → RowSet u v (p - 1) w run-limit → UnchangedFrom n t v
 kept-down n p t u v w k pos i r = kept-row n (p - 1) t u v v w k (omega arith) r refl
 
 -- ---- neighbours
@@ -182,55 +183,55 @@ firsts-all cuts h t n p a b w = let e : p ≡ n = omega arith in rw e at w
 pub lasts-all : (cuts h t : List ℕ) (n p : ℕ) → p ≤ 0 → EachBy LastOf cuts h p n t → EachBy LastOf cuts h 0 n t
 lasts-all cuts h t n p a w = let e : p ≡ 0 = omega arith in rw e at w
 
-module _ (hist ordinals places : List ℕ) (n : ℕ) (hs : HistoryOf hist n) (nb : Numbering (take n hist) ordinals places) where
-  module _ (p r i : ℕ) (ip : p < n) (er : r ≡ getD hist p 0) (ei : i ≡ getD ordinals p 0) where
-    inside : p < length (take n hist)
-    inside = rw (hist-length hs) ip
+module _ (history ordinals places : List ℕ) (n : ℕ) (hs : HistoryOf history n) (nb : Numbering (take n history) ordinals places) where
+  module _ (p r i : ℕ) (ip : p < n) (er : r ≡ getD history p 0) (ei : i ≡ getD ordinals p 0) where
+    inside : p < length (take n history)
+    inside = rw (history-length hs) ip
 
-    is-run : run (take n hist) p ≡ r
-    is-run = hist-run hist n p ip ∙ sym er
+    is-run : run (take n history) p ≡ r
+    is-run = history-run history n p ip ∙ sym er
 
-    is-ordinal : ordinal (take n hist) p ≡ i
+    is-ordinal : ordinal (take n history) p ≡ i
     is-ordinal = sym (ei ∙ nb .ordinals-are p inside)
 
     small : r < run-limit
     small = rw er (hs .runs .small p)
 
-    below : i < count (take n hist) r
-    below = let b : ordinal (take n hist) p < count (take n hist) r = rw is-run at (ordinal-lt (take n hist) p inside) in omega (arith, is-ordinal)
+    below : i < count (take n history) r
+    below = let b : ordinal (take n history) p < count (take n history) r = rw is-run at (ordinal-lt (take n history) p inside) in omega (arith, is-ordinal)
 
     -- the place of step m of the run
-    module _ (m q : ℕ) (im : m < count (take n hist) r) (eq : q ≡ getD places (r * run-step-limit + m) 0) where
-      is-place : q ≡ place-of (take n hist) r m
+    module _ (m q : ℕ) (im : m < count (take n history) r) (eq : q ≡ getD places (r * run-step-limit + m) 0) where
+      is-place : q ≡ place-of (take n history) r m
       is-place = eq ∙ nb .places-are r m small im
 
-      q-inside : q < length (take n hist)
-      q-inside = rw is-place (place-of-spec (take n hist) r m im .0)
+      q-inside : q < length (take n history)
+      q-inside = rw is-place (place-of-spec (take n history) r m im .0)
 
-      q-run : run (take n hist) q ≡ run (take n hist) p
-      q-run = rw (is-place, is-run) (place-of-spec (take n hist) r m im .1)
+      q-run : run (take n history) q ≡ run (take n history) p
+      q-run = rw (is-place, is-run) (place-of-spec (take n history) r m im .1)
 
-      q-ordinal : ordinal (take n hist) q ≡ m
-      q-ordinal = rw is-place (place-of-ordinal (take n hist) r m im)
+      q-ordinal : ordinal (take n history) q ≡ m
+      q-ordinal = rw is-place (place-of-ordinal (take n history) r m im)
 
   -- upwards: the step before p
-  module _ (p r i : ℕ) (ip : p < n) (er : r ≡ getD hist p 0) (ei : i ≡ getD ordinals p 0) where
-    pub firsts-own : (cuts t u y : List ℕ) → i ≡ 0 → EachBy FirstOf cuts (take n hist) 0 p t → RowSet t u p (λ _. p) run-limit → y ≡ u → EachBy FirstOf cuts (take n hist) 0 (p + 1) y
-    firsts-own cuts t u y z w g e = rw e (record { of = λ unit cs. each-up (w .of unit cs) g (λ o ho. first-zero unit cuts cs (take n hist) o ho p (inside p r i ip er ei) (is-ordinal p r i ip er ei ∙ z)) refl })
+  module _ (p r i : ℕ) (ip : p < n) (er : r ≡ getD history p 0) (ei : i ≡ getD ordinals p 0) where
+    pub firsts-own : (cuts t u y : List ℕ) → i ≡ 0 → EachBy FirstOf cuts (take n history) 0 p t → RowSet t u p (λ _. p) run-limit → y ≡ u → EachBy FirstOf cuts (take n history) 0 (p + 1) y
+    firsts-own cuts t u y z w g e = rw e (record { of = λ unit cs. each-up (w .of unit cs) g (λ o ho. first-zero unit cuts cs (take n history) o ho p (inside p r i ip er ei) (is-ordinal p r i ip er ei ∙ z)) refl })
 
     module _ (ni : i ≡ 0 → ⊥) where
       pub first-index : r * run-step-limit + i - 1 < places-size
       first-index = omega (arith, small p r i ip er ei, below p r i ip er ei, hs .few r)
 
       module _ (from : ℕ) (ef : from ≡ getD places (r * run-step-limit + i - 1) 0) where
-        im : i - 1 < count (take n hist) r
+        im : i - 1 < count (take n history) r
         im = omega (arith, below p r i ip er ei)
 
         ef′ : from ≡ getD places (r * run-step-limit + (i - 1)) 0
         ef′ = let e : r * run-step-limit + i - 1 ≡ r * run-step-limit + (i - 1) = omega arith in ef ∙ ap (λ (x : ℕ). getD places x 0) e
 
-        arc : ArcI (take n hist) from p
-        arc = next-step (take n hist) from p (q-inside p r i ip er ei (i - 1) from im ef′) (inside p r i ip er ei) (q-run p r i ip er ei (i - 1) from im ef′)
+        arc : ArcI (take n history) from p
+        arc = next-step (take n history) from p (q-inside p r i ip er ei (i - 1) from im ef′) (inside p r i ip er ei) (q-run p r i ip er ei (i - 1) from im ef′)
             (omega (arith, is-ordinal p r i ip er ei, q-ordinal p r i ip er ei (i - 1) from im ef′))
 
         pub first-rows : RowRoom (r * run-cuts + i * run-limit) p from
@@ -241,26 +242,26 @@ module _ (hist ordinals places : List ℕ) (n : ℕ) (hs : HistoryOf hist n) (nb
           apart = λ e. omega (arith, arc .before);
         }
 
-        pub firsts-copy-row : (cuts t u y : List ℕ) → EachBy FirstOf cuts (take n hist) 0 p t → RowSet t u p (copied-row cuts (r * run-cuts + i * run-limit) t p from) run-limit → y ≡ u → EachBy FirstOf cuts (take n hist) 0 (p + 1) y
+        pub firsts-copy-row : (cuts t u y : List ℕ) → EachBy FirstOf cuts (take n history) 0 p t → RowSet t u p (copied-row cuts (r * run-cuts + i * run-limit) t p from) run-limit → y ≡ u → EachBy FirstOf cuts (take n history) 0 (p + 1) y
         firsts-copy-row cuts t u y w g e = rw e (record { of = λ unit cs. each-up (w .of unit cs) g (row unit cs) refl })
           where
-            row : (unit : ℕ → ℕ → ℕ → ℕ) → CutsOf unit cuts → (o : ℕ) → o < run-limit → FirstOf unit (take n hist) o p (copied-row cuts (r * run-cuts + i * run-limit) t p from o)
+            row : (unit : ℕ → ℕ → ℕ → ℕ) → CutsOf unit cuts → (o : ℕ) → o < run-limit → FirstOf unit (take n history) o p (copied-row cuts (r * run-cuts + i * run-limit) t p from o)
             row unit cs o ho = rw (is-run p r i ip er ei, is-ordinal p r i ip er ei) at
-                (first-next unit cuts cs (take n hist) o ho from p arc (omega (arith, is-ordinal p r i ip er ei, below p r i ip er ei, hs .few r)) (getD t (from * run-limit + o) 0)
+                (first-next unit cuts cs (take n history) o ho from p arc (omega (arith, is-ordinal p r i ip er ei, below p r i ip er ei, hs .few r)) (getD t (from * run-limit + o) 0)
                 (w .of unit cs .at from o (omega arith) (arc .before) ho))
 
   -- downwards: the step after p
-  module _ (counts : List ℕ) (cn : Counts (take n hist) counts) (p r i c : ℕ) (pos : 0 < p) (ip : p ≤ n) (er : r ≡ getD hist (p - 1) 0) (ei : i ≡ getD ordinals (p - 1) 0) (ec : c ≡ getD counts r 0) where
+  module _ (counts : List ℕ) (cn : Counts (take n history) counts) (p r i c : ℕ) (pos : 0 < p) (ip : p ≤ n) (er : r ≡ getD history (p - 1) 0) (ei : i ≡ getD ordinals (p - 1) 0) (ec : c ≡ getD counts r 0) where
     jp : p - 1 < n
     jp = omega arith
 
-    is-count : c ≡ count (take n hist) r
+    is-count : c ≡ count (take n history) r
     is-count = ec ∙ cn .are r (small (p - 1) r i jp er ei)
 
-    pub lasts-own : (cuts t u : List ℕ) → c ≤ i + 1 → EachBy LastOf cuts (take n hist) p n t → RowSet t u (p - 1) (λ _. p - 1) run-limit → EachBy LastOf cuts (take n hist) (p - 1) n u
-    lasts-own cuts t u z w g = record { of = λ unit cs. each-down (w .of unit cs) g (λ o ho. last-end unit cuts cs (take n hist) o ho (p - 1) (inside (p - 1) r i jp er ei) ended) pos refl }
+    pub lasts-own : (cuts t u : List ℕ) → c ≤ i + 1 → EachBy LastOf cuts (take n history) p n t → RowSet t u (p - 1) (λ _. p - 1) run-limit → EachBy LastOf cuts (take n history) (p - 1) n u
+    lasts-own cuts t u z w g = record { of = λ unit cs. each-down (w .of unit cs) g (λ o ho. last-end unit cuts cs (take n history) o ho (p - 1) (inside (p - 1) r i jp er ei) ended) pos refl }
       where
-        ended : count (take n hist) (run (take n hist) (p - 1)) ≤ ordinal (take n hist) (p - 1) + 1
+        ended : count (take n history) (run (take n history) (p - 1)) ≤ ordinal (take n history) (p - 1) + 1
         ended = rw (is-run (p - 1) r i jp er ei) (omega (arith, is-count, is-ordinal (p - 1) r i jp er ei))
 
     module _ (more : i + 1 < c) where
@@ -268,33 +269,33 @@ module _ (hist ordinals places : List ℕ) (n : ℕ) (hs : HistoryOf hist n) (nb
       last-index = omega (arith, small (p - 1) r i jp er ei, is-count, hs .few r)
 
       module _ (from : ℕ) (ef : from ≡ getD places (r * run-step-limit + (i + 1)) 0) where
-        in-run : i + 1 < count (take n hist) r
+        in-run : i + 1 < count (take n history) r
         in-run = omega (arith, is-count)
 
-        f-inside : from < length (take n hist)
+        f-inside : from < length (take n history)
         f-inside = q-inside (p - 1) r i jp er ei (i + 1) from in-run ef
 
-        f-ordinal : ordinal (take n hist) from ≡ i + 1
+        f-ordinal : ordinal (take n history) from ≡ i + 1
         f-ordinal = q-ordinal (p - 1) r i jp er ei (i + 1) from in-run ef
 
-        f-run : run (take n hist) from ≡ run (take n hist) (p - 1)
+        f-run : run (take n history) from ≡ run (take n history) (p - 1)
         f-run = q-run (p - 1) r i jp er ei (i + 1) from in-run ef
 
-        after : ArcI (take n hist) (p - 1) from
-        after = next-step (take n hist) (p - 1) from (inside (p - 1) r i jp er ei) f-inside (sym f-run) (omega (arith, is-ordinal (p - 1) r i jp er ei, f-ordinal))
+        after : ArcI (take n history) (p - 1) from
+        after = next-step (take n history) (p - 1) from (inside (p - 1) r i jp er ei) f-inside (sym f-run) (omega (arith, is-ordinal (p - 1) r i jp er ei, f-ordinal))
 
         pub last-rows : RowRoom (r * run-cuts + (i + 1) * run-limit) (p - 1) from
         last-rows = record {
           flags = omega (arith, small (p - 1) r i jp er ei, is-count, hs .few r);
           to-row = omega (arith, hs .within);
-          from-row = omega (arith, f-inside, hist-length hs, hs .within);
+          from-row = omega (arith, f-inside, history-length hs, hs .within);
           apart = λ e. omega (arith, after .before);
         }
 
-        pub lasts-copy-row : (cuts t u : List ℕ) → EachBy LastOf cuts (take n hist) p n t → RowSet t u (p - 1) (copied-row cuts (r * run-cuts + (i + 1) * run-limit) t (p - 1) from) run-limit → EachBy LastOf cuts (take n hist) (p - 1) n u
+        pub lasts-copy-row : (cuts t u : List ℕ) → EachBy LastOf cuts (take n history) p n t → RowSet t u (p - 1) (copied-row cuts (r * run-cuts + (i + 1) * run-limit) t (p - 1) from) run-limit → EachBy LastOf cuts (take n history) (p - 1) n u
         lasts-copy-row cuts t u w g = record { of = λ unit cs. each-down (w .of unit cs) g (row unit cs) pos refl }
           where
-            row : (unit : ℕ → ℕ → ℕ → ℕ) → CutsOf unit cuts → (o : ℕ) → o < run-limit → LastOf unit (take n hist) o (p - 1) (copied-row cuts (r * run-cuts + (i + 1) * run-limit) t (p - 1) from o)
+            row : (unit : ℕ → ℕ → ℕ → ℕ) → CutsOf unit cuts → (o : ℕ) → o < run-limit → LastOf unit (take n history) o (p - 1) (copied-row cuts (r * run-cuts + (i + 1) * run-limit) t (p - 1) from o)
             row unit cs o ho = rw (f-run ∙ is-run (p - 1) r i jp er ei, f-ordinal) at
-                (last-next unit cuts cs (take n hist) o ho (p - 1) from after (omega (arith, f-ordinal, in-run, hs .few r)) (getD t (from * run-limit + o) 0)
-                (w .of unit cs .at from o (omega (arith, after .before)) (omega (arith, f-inside, hist-length hs)) ho))
+                (last-next unit cuts cs (take n history) o ho (p - 1) from after (omega (arith, f-ordinal, in-run, hs .few r)) (getD t (from * run-limit + o) 0)
+                (w .of unit cs .at from o (omega (arith, after .before)) (omega (arith, f-inside, history-length hs)) ho))

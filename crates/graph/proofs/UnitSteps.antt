@@ -12,7 +12,8 @@ use lib.ListN.{length}
 use Rattle.theory.specs.History.{count, run, ordinal}
 use Rattle.theory.specs.Relative.{Depends, direct, InUnit}
 use Rattle.theory.specs.Graph.{FirstOf, LastOf, ArcI, ArcD}
-use Rattle.theory.proofs.Places.{At, place-of, place-of-spec, place-of-ordinal, ordinal-lt, ordinal-mono}
+use Rattle.theory.specs.inner.Places.{place-of}
+use Rattle.theory.proofs.Places.{IsPlace, place-of-spec, place-of-ordinal, ordinal-lt, ordinal-mono}
 use Rattle.theory.proofs.Steps.{dep-lt, dep-inside, unit-sym, unit-trans}
 use Rattle.graph.proofs.DependenceRows.{dep-trans}
 
@@ -79,7 +80,7 @@ module _ (conflict : ℕ → ℕ → ℕ → ℕ → Bool) (h : List ℕ) where
                 im : m < count h (run h q)
                 im = omega (arith, e, ordinal-lt h q inside)
 
-                t : At h (run h q) m (place-of h (run h q) m)
+                t : IsPlace h (run h q) m (place-of h (run h q) m)
                 t = place-of-spec h (run h q) m im
 
                 k-lt : Dec (place-of h (run h q) m < q) → place-of h (run h q) m < q

@@ -22,12 +22,12 @@ abbrev pub Lasts : (ℕ → ℕ → ℕ → ℕ) → List ℕ → List ℕ → T
 Lasts unit h = Each (LastOf unit h) 0 (length h)
 
 -- from place n on u is as t
-pub record Kept (n : ℕ) (t u : List ℕ) : Type 0 where
+pub record UnchangedFrom (n : ℕ) (t u : List ℕ) : Type 0 where
   pub at : (p o : ℕ) → n ≤ p → o < run-limit → getD u (p * run-limit + o) 0 ≡ getD t (p * run-limit + o) 0
 
 -- what filling the tables firsts and lasts makes of them
 pub record UnitTables (unit : ℕ → ℕ → ℕ → ℕ) (h firsts firsts′ lasts lasts′ : List ℕ) : Type 0 where
   pub firsts-are : Firsts unit h firsts′
-  pub firsts-kept : Kept (length h) firsts firsts′
+  pub firsts-kept : UnchangedFrom (length h) firsts firsts′
   pub lasts-are : Lasts unit h lasts′
-  pub lasts-kept : Kept (length h) lasts lasts′
+  pub lasts-kept : UnchangedFrom (length h) lasts lasts′

@@ -3,22 +3,25 @@ use bits::Found;
 use bits::Row;
 use bits::Table;
 use book::Book;
+use book::Step;
 ghost use mathlib.Core.Path.{_≡_};
 ghost use mathlib.Core.Logic.{_≢_};
 ghost use Prim.Native.Nat.{_+_, _*_, _<_, _≤_};
 ghost use lib.ListN.{length, take};
+ghost use Rattle.theory.specs.Deck.{listed, same-position, steps-conflict};
 ghost use Rattle.theory.specs.Relative.{Depends};
 ghost use Rattle.theory.specs.Graph.{FirstOf, LastOf, Arc};
-ghost use Rattle.book.specs.Format.{kind-limit, run-limit, step-limit, sum};
-ghost use Rattle.book.specs.Book.{Valid, contents-of};
+ghost use Rattle.theory.specs.Lists.{sum};
+ghost use Rattle.book.specs.Format.{kind-limit, run-limit, step-limit};
+ghost use Rattle.book.specs.Book.{code-limit, as-step, pairs-of, Valid, contents-of};
 ghost use Rattle.book.specs.Meaning.{conflict-of, unit-of};
 ghost use Rattle.graph.specs.Answers.{Answers};
 ghost use Rattle.graph.specs.Marks.{Marks};
-ghost use Rattle.graph.specs.Units.{units-size, Kept, UnitTables};
+ghost use Rattle.graph.specs.Units.{units-size, UnchangedFrom, UnitTables};
 ghost use Rattle.graph.specs.Dependence.{StepsRead, StepRead};
-ghost use Rattle.graph.specs.Tables.{places-size, Small, HistoryOf, Declared, NumberAt, Starts, StepsRoom, StepsByPlace, Link, Fresh};
-ghost use Rattle.graph.specs.Tables.{Numbering, Counts, EachBy, RowRoom, RowSet, copied-row};
-ghost use Rattle.graph.specs.Arcs.{ArcBy, ArcByPlaces, InRun, TablesOf, GainedBy, ArcRows, ArcInput, Rowed};
+ghost use Rattle.graph.specs.inner.Tables.{places-size, Small, HistoryOf, Declared, NumberAt, StepAt, Starts, StepsRoom, StepsByPlace, Link, Fresh};
+ghost use Rattle.graph.specs.inner.Tables.{Numbering, Counts, EachBy, RowRoom, RowSet, copied-row};
+ghost use Rattle.graph.specs.inner.Arcs.{ArcOf, ArcOfPlaces, InRun, TablesOf, GainedBy, ArcRows, ArcInput, Rowed};
 ghost use Rattle.bits.specs.Table.{bit-at, intersection};
 ghost use Rattle.bits.specs.Last.{LastAt};
 
@@ -40,7 +43,7 @@ fn sized_by_place(t: [u8; Book::STEPS])
     ensures { λ r. ⌜ length t ≡ step-limit ⌝ }
 {}
 
-fn sized_positions(t: [u16; Book::STEPS])
+fn sized_steps(t: [u32; Book::STEPS])
     ensures { λ r. ⌜ length t ≡ step-limit ⌝ }
 {}
 
@@ -53,104 +56,120 @@ fn sized_units(t: Units)
 {}
 
 // The run of place p.
-fn run_of(hist: &[u8; Book::STEPS], p: usize) -> usize
-    requires { ⌜ (p < step-limit) × Small run-limit (now hist) ⌝ }
-    ensures { λ r. ⌜ NumberAt (now (hist .entry)) p run-limit r ⌝ }
+pub fn run_of(history: &[u8; Book::STEPS], p: usize) -> usize
+    requires { ⌜ (p < step-limit) × Small run-limit (now history) ⌝ }
+    ensures { λ r. ⌜ NumberAt (now (history .entry)) p run-limit r ⌝ }
 {
-    book::wide(hist[p])
+    book::wide(history[p])
 }
 
-// The kind of the step at place p.
-fn kind_of(kinds: &[u8; Book::STEPS], p: usize) -> usize
-    requires { ⌜ (p < step-limit) × Small kind-limit (now kinds) ⌝ }
-    ensures { λ r. ⌜ NumberAt (now (kinds .entry)) p kind-limit r ⌝ }
+// The step at index i of a table of codes.
+fn step_at(steps: &[u32; Book::STEPS], i: usize) -> Step
+    requires { ⌜ (i < step-limit) × Small code-limit (now steps) ⌝ }
+    ensures { λ r. ⌜ StepAt (now (steps .entry)) i r ⌝ }
 {
-    book::wide(kinds[p])
+    book::step_coded(steps[i])
 }
 
 // Where each run's steps begin among the book's steps.
-fn starts(lens: &[u8; Book::RUNS], t: &mut [u8; Book::RUNS])
-    requires { ⌜ sum (now lens) ≤ step-limit ⌝ }
-    ensures { λ r. ⌜ Starts (now (lens .entry)) (now (t .exit)) ⌝ }
+fn starts(lengths: &[u8; Book::RUNS], t: &mut [u8; Book::RUNS])
+    requires { ⌜ sum (now lengths) ≤ step-limit ⌝ }
+    ensures { λ r. ⌜ Starts (now (lengths .entry)) (now (t .exit)) ⌝ }
 {
     let mut s: u8 = 0;
     let mut r = 0;
     while r < Book::RUNS {
         sized_by_run(*t);
         t[r] = s;
-        s = s + lens[r];
+        s = s + lengths[r];
         r += 1;
     }
 }
 
-// The kind and the position of each place's step. `next` has the next step of each run.
+// The code of each place's step. `next` has the next step of each run.
 fn by_place(
-    hist: &[u8; Book::STEPS],
+    history: &[u8; Book::STEPS],
     n: usize,
-    kinds: &[u8; Book::STEPS],
-    positions: &[u16; Book::STEPS],
+    steps: &[u32; Book::STEPS],
     next: &mut [u8; Book::RUNS],
-    kinds_at: &mut [u8; Book::STEPS],
-    positions_at: &mut [u16; Book::STEPS],
+    steps_at: &mut [u32; Book::STEPS],
 )
-    requires { ⌜ HistoryOf (now hist) n × StepsRoom (take n (now hist)) (now next) × Small kind-limit (now kinds) × Small kind-limit (now «kinds_at») ⌝ }
-    ensures { λ r. ⌜ StepsByPlace (take n (now (hist .entry))) (now (next .entry)) (now (kinds .entry)) (now (positions .entry)) (now («kinds_at» .exit)) (now («positions_at» .exit)) n ⌝ }
+    requires { ⌜ HistoryOf (now history) n × StepsRoom (take n (now history)) (now next) × Small code-limit (now steps) × Small code-limit (now «steps_at») ⌝ }
+    ensures { λ r. ⌜ StepsByPlace (take n (now (history .entry))) (now (next .entry)) (now (steps .entry)) (now («steps_at» .exit)) n ⌝ }
 {
     let mut p = 0;
     while p < n {
         sized_by_run(*next);
-        sized_by_place(*kinds_at);
-        sized_positions(*positions_at);
-        let r = run_of(hist, p);
+        sized_steps(*steps_at);
+        let r = run_of(history, p);
         let i = next[r];
-        let s = book::wide(i);
-        kinds_at[p] = kinds[s];
-        positions_at[p] = positions[s];
+        steps_at[p] = steps[book::wide(i)];
         next[r] = i + 1;
         p += 1;
     }
 }
 
-// Whether place q is linked to p: of one run, or at one position with kinds that are a listed pair.
-fn linked(
-    hist: &[u8; Book::STEPS],
-    kinds: &[u8; Book::STEPS],
-    positions: &[u16; Book::STEPS],
-    pairs: &[u8; Book::PAIRS_SIZE],
-    p: usize,
-    q: usize,
-) -> bool
-    requires { ⌜ (p < step-limit) × (q < step-limit) × Small kind-limit (now kinds) ⌝ }
-    ensures { λ r. ⌜ Answers (Link (now (hist .entry)) (now (kinds .entry)) (now (positions .entry)) (now (pairs .entry)) p q) r ⌝ }
+// Whether two position numbers name the same position.
+pub fn same_position(p: u16, q: u16) -> bool
+    ensures { λ r. ⌜ r ≡ same-position p q ⌝ }
 {
-    if hist[p] == hist[q] {
-        return true;
-    }
-    if positions[p] != positions[q] {
-        return false;
-    }
-    let a = kind_of(kinds, p);
-    let b = kind_of(kinds, q);
+    p == q
+}
+
+// Whether kinds a and b are a listed pair.
+fn is_listed(pairs: &[u8; Book::PAIRS_SIZE], a: usize, b: usize) -> bool
+    requires { ⌜ (a < kind-limit) × (b < kind-limit) ⌝ }
+    ensures { λ r. ⌜ r ≡ listed (pairs-of (now (pairs .entry))) a b ⌝ }
+{
     if pairs[a * Book::KINDS + b] != 0 {
         return true;
     }
     pairs[b * Book::KINDS + a] != 0
 }
 
+// Whether two steps of different runs conflict.
+pub fn conflicts(pairs: &[u8; Book::PAIRS_SIZE], x: Step, y: Step) -> bool
+    requires { ⌜ (x .kind < kind-limit) × (y .kind < kind-limit) ⌝ }
+    ensures { λ r. ⌜ r ≡ steps-conflict (pairs-of (now (pairs .entry))) (as-step x) (as-step y) ⌝ }
+{
+    if same_position(x.position, y.position) {
+        return is_listed(pairs, book::wide(x.kind), book::wide(y.kind));
+    }
+    false
+}
+
+// Whether place q is linked to p: of one run, or in conflict.
+fn linked(
+    history: &[u8; Book::STEPS],
+    steps: &[u32; Book::STEPS],
+    pairs: &[u8; Book::PAIRS_SIZE],
+    p: usize,
+    q: usize,
+) -> bool
+    requires { ⌜ (p < step-limit) × (q < step-limit) × Small code-limit (now steps) ⌝ }
+    ensures { λ r. ⌜ Answers (Link (now (history .entry)) (now (steps .entry)) (now (pairs .entry)) p q) r ⌝ }
+{
+    if history[p] == history[q] {
+        return true;
+    }
+    let x = step_at(steps, p);
+    let y = step_at(steps, q);
+    conflicts(pairs, x, y)
+}
+
 // Whether place q is linked to p, and its row does not mark p yet.
 fn fresh(
-    hist: &[u8; Book::STEPS],
-    kinds: &[u8; Book::STEPS],
-    positions: &[u16; Book::STEPS],
+    history: &[u8; Book::STEPS],
+    steps: &[u32; Book::STEPS],
     pairs: &[u8; Book::PAIRS_SIZE],
     dep: &Table,
     p: usize,
     q: usize,
 ) -> bool
-    requires { ⌜ (p < step-limit) × (q < step-limit) × Small kind-limit (now kinds) ⌝ }
-    ensures { λ r. ⌜ Fresh (Link (now (hist .entry)) (now (kinds .entry)) (now (positions .entry)) (now (pairs .entry))) (now (dep .entry)) p q r ⌝ }
+    requires { ⌜ (p < step-limit) × (q < step-limit) × Small code-limit (now steps) ⌝ }
+    ensures { λ r. ⌜ Fresh (Link (now (history .entry)) (now (steps .entry)) (now (pairs .entry))) (now (dep .entry)) p q r ⌝ }
 {
-    if linked(hist, kinds, positions, pairs, p, q) {
+    if linked(history, steps, pairs, p, q) {
         if bits::marked(dep, q, p) {
             return false;
         }
@@ -161,20 +180,19 @@ fn fresh(
 
 // The row of place q, from the rows of the places before it. A place that the row marks already adds nothing: with it the row has all that it depends on.
 fn dependence_row(
-    hist: &[u8; Book::STEPS],
-    kinds: &[u8; Book::STEPS],
-    positions: &[u16; Book::STEPS],
+    history: &[u8; Book::STEPS],
+    steps: &[u32; Book::STEPS],
     pairs: &[u8; Book::PAIRS_SIZE],
     q: usize,
     dep: &mut Table,
 )
-    requires { ⌜ (q < step-limit) × Small kind-limit (now kinds) ⌝ }
-    ensures { λ r. ⌜ StepRead (Link (now (hist .entry)) (now (kinds .entry)) (now (positions .entry)) (now (pairs .entry))) (now (dep .entry)) (now (dep .exit)) q ⌝ }
+    requires { ⌜ (q < step-limit) × Small code-limit (now steps) ⌝ }
+    ensures { λ r. ⌜ StepRead (Link (now (history .entry)) (now (steps .entry)) (now (pairs .entry))) (now (dep .entry)) (now (dep .exit)) q ⌝ }
 {
     let mut p = q;
     while p > 0 {
         p -= 1;
-        if fresh(hist, kinds, positions, pairs, dep, p, q) {
+        if fresh(history, steps, pairs, dep, p, q) {
             bits::join(dep, q, p);
             bits::mark(dep, q, p);
         }
@@ -183,20 +201,19 @@ fn dependence_row(
 
 // The rows of the first n places, in one pass.
 fn dependence_rows(
-    hist: &[u8; Book::STEPS],
-    kinds: &[u8; Book::STEPS],
-    positions: &[u16; Book::STEPS],
+    history: &[u8; Book::STEPS],
+    steps: &[u32; Book::STEPS],
     pairs: &[u8; Book::PAIRS_SIZE],
     n: usize,
     dep: &mut Table,
 )
-    requires { ⌜ (n ≤ step-limit) × Small kind-limit (now kinds) ⌝ }
-    ensures { λ r. ⌜ StepsRead (Link (now (hist .entry)) (now (kinds .entry)) (now (positions .entry)) (now (pairs .entry))) (now (dep .exit)) n ⌝ }
+    requires { ⌜ (n ≤ step-limit) × Small code-limit (now steps) ⌝ }
+    ensures { λ r. ⌜ StepsRead (Link (now (history .entry)) (now (steps .entry)) (now (pairs .entry))) (now (dep .exit)) n ⌝ }
 {
     *dep = [0; bits::TABLE_WORDS];
     let mut q = 0;
     while q < n {
-        dependence_row(hist, kinds, positions, pairs, q, dep);
+        dependence_row(history, steps, pairs, q, dep);
         q += 1;
     }
 }
@@ -206,44 +223,34 @@ pub fn dependences(b: Book, dep: &mut Table)
     requires { ⌜ Valid b ⌝ }
     ensures { λ r. ⌜ Marks (Depends (conflict-of (contents-of b)) (contents-of b .history)) (now (dep .exit)) ⌝ }
 {
-    let hist = b.history;
-    let lens = b.lens;
-    let kinds = b.kinds;
-    let positions = b.positions;
+    let history = b.history;
+    let lengths = b.lengths;
+    let steps = b.steps;
     let pairs = b.pairs;
     let n = b.done;
     let mut next = [0u8; Book::RUNS];
-    starts(&lens, &mut next);
-    let mut kinds_at = [0u8; Book::STEPS];
-    let mut positions_at = [0u16; Book::STEPS];
-    by_place(
-        &hist,
-        n,
-        &kinds,
-        &positions,
-        &mut next,
-        &mut kinds_at,
-        &mut positions_at,
-    );
-    dependence_rows(&hist, &kinds_at, &positions_at, &pairs, n, dep);
+    starts(&lengths, &mut next);
+    let mut steps_at = [0u32; Book::STEPS];
+    by_place(&history, n, &steps, &mut next, &mut steps_at);
+    dependence_rows(&history, &steps_at, &pairs, n, dep);
 }
 
 // The ordinal of each place, and the place of each step.
 fn number_places(
-    hist: &[u8; Book::STEPS],
+    history: &[u8; Book::STEPS],
     n: usize,
     ordinals: &mut [u8; Book::STEPS],
     places: &mut [u8; PLACES_SIZE],
 )
-    requires { ⌜ HistoryOf (now hist) n ⌝ }
-    ensures { λ r. ⌜ Numbering (take n (now (hist .entry))) (now (ordinals .exit)) (now (places .exit)) ⌝ }
+    requires { ⌜ HistoryOf (now history) n ⌝ }
+    ensures { λ r. ⌜ Numbering (take n (now (history .entry))) (now (ordinals .exit)) (now (places .exit)) ⌝ }
 {
     let mut counts = [0u8; Book::RUNS];
     let mut p = 0;
     while p < n {
         sized_by_place(*ordinals);
         sized_by_step(*places);
-        let r = run_of(hist, p);
+        let r = run_of(history, p);
         let i = counts[r];
         ordinals[p] = i;
         let j = book::wide(i);
@@ -285,19 +292,19 @@ fn copy_row(cuts: &[u8; Book::CUTS_SIZE], at: usize, t: &mut Units, p: usize, fr
 
 // The first place of each unit: a step's own, or that of the step before it.
 fn unit_firsts(
-    hist: &[u8; Book::STEPS],
+    history: &[u8; Book::STEPS],
     n: usize,
     ordinals: &[u8; Book::STEPS],
     places: &[u8; PLACES_SIZE],
     cuts: &[u8; Book::CUTS_SIZE],
     t: &mut Units,
 )
-    requires { ⌜ HistoryOf (now hist) n × Numbering (take n (now hist)) (now ordinals) (now places) ⌝ }
-    ensures { λ r. ⌜ EachBy FirstOf (now (cuts .entry)) (take n (now (hist .entry))) 0 n (now (t .exit)) × Kept n (now (t .entry)) (now (t .exit)) ⌝ }
+    requires { ⌜ HistoryOf (now history) n × Numbering (take n (now history)) (now ordinals) (now places) ⌝ }
+    ensures { λ r. ⌜ EachBy FirstOf (now (cuts .entry)) (take n (now (history .entry))) 0 n (now (t .exit)) × UnchangedFrom n (now (t .entry)) (now (t .exit)) ⌝ }
 {
     let mut p = 0;
     while p < n {
-        let r = run_of(hist, p);
+        let r = run_of(history, p);
         let i = book::wide(ordinals[p]);
         if i == 0 {
             set_row(t, p);
@@ -311,7 +318,7 @@ fn unit_firsts(
 
 // The last place of each unit: a step's own, or that of the step after it.
 fn unit_lasts(
-    hist: &[u8; Book::STEPS],
+    history: &[u8; Book::STEPS],
     n: usize,
     ordinals: &[u8; Book::STEPS],
     places: &[u8; PLACES_SIZE],
@@ -319,13 +326,13 @@ fn unit_lasts(
     cuts: &[u8; Book::CUTS_SIZE],
     t: &mut Units,
 )
-    requires { ⌜ HistoryOf (now hist) n × Numbering (take n (now hist)) (now ordinals) (now places) × Counts (take n (now hist)) (now counts) ⌝ }
-    ensures { λ r. ⌜ EachBy LastOf (now (cuts .entry)) (take n (now (hist .entry))) 0 n (now (t .exit)) × Kept n (now (t .entry)) (now (t .exit)) ⌝ }
+    requires { ⌜ HistoryOf (now history) n × Numbering (take n (now history)) (now ordinals) (now places) × Counts (take n (now history)) (now counts) ⌝ }
+    ensures { λ r. ⌜ EachBy LastOf (now (cuts .entry)) (take n (now (history .entry))) 0 n (now (t .exit)) × UnchangedFrom n (now (t .entry)) (now (t .exit)) ⌝ }
 {
     let mut p = n;
     while p > 0 {
         p -= 1;
-        let r = run_of(hist, p);
+        let r = run_of(history, p);
         let i = book::wide(ordinals[p]) + 1;
         if i < book::wide(counts[r]) {
             let from = book::wide(places[r * Book::RUN_STEPS + i]);
@@ -341,32 +348,32 @@ pub fn units(b: Book, firsts: &mut Units, lasts: &mut Units)
     requires { ⌜ Valid b ⌝ }
     ensures { λ r. ⌜ UnitTables (unit-of (contents-of b)) (contents-of b .history) (now (firsts .entry)) (now (firsts .exit)) (now (lasts .entry)) (now (lasts .exit)) ⌝ }
 {
-    let hist = b.history;
-    let dones = b.dones;
+    let history = b.history;
+    let counts = b.counts;
     let n = b.done;
     let mut ordinals = [0u8; Book::STEPS];
     let mut places = [0u8; PLACES_SIZE];
-    number_places(&hist, n, &mut ordinals, &mut places);
-    unit_firsts(&hist, n, &ordinals, &places, &b.cuts, firsts);
-    unit_lasts(&hist, n, &ordinals, &places, &dones, &b.cuts, lasts);
+    number_places(&history, n, &mut ordinals, &mut places);
+    unit_firsts(&history, n, &ordinals, &places, &b.cuts, firsts);
+    unit_lasts(&history, n, &ordinals, &places, &counts, &b.cuts, lasts);
 }
 
 // The places of each run: bit p of row r where p is a place of r.
-fn run_masks(hist: &[u8; Book::STEPS], n: usize, masks: &mut Table)
-    requires { ⌜ HistoryOf (now hist) n ⌝ }
-    ensures { λ r. ⌜ Marks (InRun (take n (now (hist .entry))) n) (now (masks .exit)) ⌝ }
+fn run_masks(history: &[u8; Book::STEPS], n: usize, masks: &mut Table)
+    requires { ⌜ HistoryOf (now history) n ⌝ }
+    ensures { λ r. ⌜ Marks (InRun (take n (now (history .entry))) n) (now (masks .exit)) ⌝ }
 {
     *masks = [0; bits::TABLE_WORDS];
     let mut p = 0;
     while p < n {
-        let r = run_of(hist, p);
+        let r = run_of(history, p);
         bits::mark(masks, r, p);
         p += 1;
     }
 }
 
 // What a table of units has of place p and run o.
-fn place_in(t: &Units, n: usize, p: usize, o: usize) -> usize
+pub fn place_in(t: &Units, n: usize, p: usize, o: usize) -> usize
     requires { ⌜ Rowed n (now t) × (p < n) × (n ≤ step-limit) × (o < run-limit) ⌝ }
     ensures { λ r. ⌜ NumberAt (now (t .entry)) (p * run-limit + o) step-limit r ⌝ }
 {
@@ -376,7 +383,7 @@ fn place_in(t: &Units, n: usize, p: usize, o: usize) -> usize
 // The arcs that come of what place q, of run s, depends on in another run r, whose places the mask has; l is the last such place.
 // D: from each to q. F: from the last place of l's unit to q. B: from each to the first place of q's unit.
 fn arcs_across(
-    hist: &[u8; Book::STEPS],
+    history: &[u8; Book::STEPS],
     n: usize,
     dep: &Table,
     firsts: &Units,
@@ -388,8 +395,8 @@ fn arcs_across(
     l: usize,
     arc: &mut Table,
 )
-    requires { ⌜ ArcInput (now hist) n (now dep) (now firsts) (now lasts) (now mask) r × (q < n) × NumberAt (now hist) q run-limit s × (r ≢ s) × LastAt (intersection (bit-at (now dep) q) (bit-at (now mask) 0)) l ⌝ }
-    ensures { λ _. ⌜ GainedBy ArcBy (take n (now (hist .entry))) (now (dep .entry)) (now (firsts .entry)) (now (lasts .entry)) r q (now (arc .entry)) (now (arc .exit)) ⌝ }
+    requires { ⌜ ArcInput (now history) n (now dep) (now firsts) (now lasts) (now mask) r × (q < n) × NumberAt (now history) q run-limit s × (r ≢ s) × LastAt (intersection (bit-at (now dep) q) (bit-at (now mask) 0)) l ⌝ }
+    ensures { λ _. ⌜ GainedBy ArcOf (take n (now (history .entry))) (now (dep .entry)) (now (firsts .entry)) (now (lasts .entry)) r q (now (arc .entry)) (now (arc .exit)) ⌝ }
 {
     let e = place_in(lasts, n, l, s);
     let f = place_in(firsts, n, q, r);
@@ -400,7 +407,7 @@ fn arcs_across(
 
 // The arcs that come of what place q depends on in run r. I: from the last, if r is q's run.
 fn arcs_between(
-    hist: &[u8; Book::STEPS],
+    history: &[u8; Book::STEPS],
     n: usize,
     dep: &Table,
     firsts: &Units,
@@ -410,16 +417,16 @@ fn arcs_between(
     q: usize,
     arc: &mut Table,
 )
-    requires { ⌜ ArcInput (now hist) n (now dep) (now firsts) (now lasts) (now mask) r × (q < n) ⌝ }
-    ensures { λ _. ⌜ GainedBy ArcBy (take n (now (hist .entry))) (now (dep .entry)) (now (firsts .entry)) (now (lasts .entry)) r q (now (arc .entry)) (now (arc .exit)) ⌝ }
+    requires { ⌜ ArcInput (now history) n (now dep) (now firsts) (now lasts) (now mask) r × (q < n) ⌝ }
+    ensures { λ _. ⌜ GainedBy ArcOf (take n (now (history .entry))) (now (dep .entry)) (now (firsts .entry)) (now (lasts .entry)) r q (now (arc .entry)) (now (arc .exit)) ⌝ }
 {
     match bits::last_within(dep, q, mask) {
         Found::At(l) => {
-            let s = run_of(hist, q);
+            let s = run_of(history, q);
             if r == s {
                 bits::mark(arc, q, l);
             } else {
-                arcs_across(hist, n, dep, firsts, lasts, mask, r, q, s, l, arc);
+                arcs_across(history, n, dep, firsts, lasts, mask, r, q, s, l, arc);
             }
         }
         Found::Nothing => {}
@@ -428,7 +435,7 @@ fn arcs_between(
 
 // The arcs that come of what any place depends on in run r.
 fn arcs_from(
-    hist: &[u8; Book::STEPS],
+    history: &[u8; Book::STEPS],
     n: usize,
     dep: &Table,
     firsts: &Units,
@@ -437,36 +444,36 @@ fn arcs_from(
     r: usize,
     arc: &mut Table,
 )
-    requires { ⌜ ArcInput (now hist) n (now dep) (now firsts) (now lasts) (now mask) r ⌝ }
-    ensures { λ _. ⌜ GainedBy ArcByPlaces (take n (now (hist .entry))) (now (dep .entry)) (now (firsts .entry)) (now (lasts .entry)) r n (now (arc .entry)) (now (arc .exit)) ⌝ }
+    requires { ⌜ ArcInput (now history) n (now dep) (now firsts) (now lasts) (now mask) r ⌝ }
+    ensures { λ _. ⌜ GainedBy ArcOfPlaces (take n (now (history .entry))) (now (dep .entry)) (now (firsts .entry)) (now (lasts .entry)) r n (now (arc .entry)) (now (arc .exit)) ⌝ }
 {
     let mut q = 0;
     while q < n {
-        arcs_between(hist, n, dep, firsts, lasts, mask, r, q, arc);
+        arcs_between(history, n, dep, firsts, lasts, mask, r, q, arc);
         q += 1;
     }
 }
 
 // The arc rows, run after run.
 fn arc_rows(
-    hist: &[u8; Book::STEPS],
+    history: &[u8; Book::STEPS],
     n: usize,
-    runs: usize,
+    declared: usize,
     dep: &Table,
     firsts: &Units,
     lasts: &Units,
     arc: &mut Table,
 )
-    requires { ⌜ HistoryOf (now hist) n × Declared (now hist) n runs × TablesOf (take n (now hist)) (now dep) (now firsts) (now lasts) ⌝ }
-    ensures { λ _. ⌜ ArcRows (take n (now (hist .entry))) (now (dep .entry)) (now (firsts .entry)) (now (lasts .entry)) (now (arc .exit)) ⌝ }
+    requires { ⌜ HistoryOf (now history) n × Declared (now history) n declared × TablesOf (take n (now history)) (now dep) (now firsts) (now lasts) ⌝ }
+    ensures { λ _. ⌜ ArcRows (take n (now (history .entry))) (now (dep .entry)) (now (firsts .entry)) (now (lasts .entry)) (now (arc .exit)) ⌝ }
 {
     let mut masks = [0; bits::TABLE_WORDS];
-    run_masks(hist, n, &mut masks);
+    run_masks(history, n, &mut masks);
     *arc = [0; bits::TABLE_WORDS];
     let mut r = 0;
-    while r < runs {
+    while r < declared {
         let mask = bits::row_of(&masks, r);
-        arcs_from(hist, n, dep, firsts, lasts, &mask, r, arc);
+        arcs_from(history, n, dep, firsts, lasts, &mask, r, arc);
         r += 1;
     }
 }
@@ -481,8 +488,7 @@ pub fn arcs(b: Book, arc: &mut Table)
     let mut firsts = [0u8; UNITS_SIZE];
     let mut lasts = [0u8; UNITS_SIZE];
     units(b, &mut firsts, &mut lasts);
-    let hist = b.history;
+    let history = b.history;
     let n = b.done;
-    let runs = b.runs;
-    arc_rows(&hist, n, runs, &dep, &firsts, &lasts, arc);
+    arc_rows(&history, n, b.declared, &dep, &firsts, &lasts, arc);
 }

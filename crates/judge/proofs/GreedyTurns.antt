@@ -2,53 +2,50 @@
 use Prim.Native.Nat.{ℕ, _+_, _≤_, _<_}
 use native.Mathlib.Nat.{le-antisymm}
 use native.Mathlib.Numerals.{add-one}
-use native.Mathlib.Decide.{ℕ-discrete, decLe}
+use native.Mathlib.Decide.{decLe}
 use native.Mathlib.Omega.{arith}
-use mathlib.Core.Path.{_≡_, refl, sym, _∙_, subst}
-use mathlib.Core.Logic.{_⊎_, inl, inr}
+use mathlib.Core.Path.{_≡_, refl, subst}
+use mathlib.Core.Logic.{inl, inr}
 use mathlib.Core.Bool.{Bool}
 use mathlib.Core.List.{List, [], _∷_, _++_}
 use lib.ListN.{length, getD, take, set, length-append, length-set, replicate}
-use lib.Seq.{take-suc-set, getD-take, length-take-le}
-use Rattle.theory.specs.History.{run, ordinal}
+use lib.Seq.{take-suc-set, getD-take}
+use Rattle.theory.specs.History.{run}
 use Rattle.theory.specs.Graph.{Arc, Taken, Ready, start, turn}
 use Rattle.theory.proofs.Decided.{arc-source}
 use Rattle.theory.proofs.Greedy.{taken-turn}
 use Rattle.bits.specs.Table.{row-bits, bit-at, Marked}
 use Rattle.bits.specs.declared.Found.{Found}
 use Rattle.bits.specs.declared.Found.the-variants.{At, Nothing}
-use Rattle.bits.proofs.Store.{zeros-bit}
 use Rattle.book.specs.Format.{step-limit}
 use Rattle.graph.specs.Marks.{Marks}
-use Rattle.judge.specs.Inner.{InSet, ReadyIn, NoneReady, FirstReady, AllTaken, FirstUntaken, Stored, TakenAs, TurnsTaken}
-use Rattle.judge.proofs.ReadyPlaces.{not-in, both-ways, added-other, added-in, all-none, all-added}
-
-pub history-length : {history : List ℕ} {n : ℕ} → Stored history n → length (take n history) ≡ n
-history-length {history} {n} w = let l : n ≤ length history = omega (arith, w .within, w .long) in length-take-le n history l
+use Rattle.graph.specs.inner.Tables.{HistoryOf}
+use Rattle.graph.proofs.Counting.{clash, history-length}
+use Rattle.judge.specs.inner.Turns.{InSet, ReadyIn, NoneReady, FirstReady, AllTaken, FirstUntaken, TakenAs, TurnsTaken}
+use Rattle.judge.proofs.ReadyPlaces.{not-in, none-taken, taken-added, all-none, all-added}
 
 module _ (conflict : ℕ → ℕ → ℕ → ℕ → Bool) (unit : ℕ → ℕ → ℕ → ℕ) (h : List ℕ) (small : length h ≤ row-bits) (arc : List ℕ)
     (marks : Marks (Arc conflict unit h) arc) (l t : List ℕ) (g : TakenAs conflict unit h l t) where
   in-ready : (p : ℕ) → p < length h → ReadyIn arc t p → Ready conflict unit h l p
-  in-ready p i f = record { inside = i; untaken = λ k. both-ways (f .untaken) (g .complete p i k); sources = source }
+  in-ready p i f = record { inside = i; untaken = λ k. clash (f .untaken) (g .places .complete p i k); sources = source }
     where
       source : (x : ℕ) → Arc conflict unit h x p → Taken h l x
       source x a =
           let ix : x < length h = arc-source conflict unit a in
-          g .sound x ix (f .sources x (omega arith) (marks .complete x p (omega arith) (omega arith) a))
+          g .places .sound x ix (f .sources x (omega arith) (marks .complete x p (omega arith) (omega arith) a))
 
-  ready-in : (p : ℕ) → Ready conflict unit h l p → ReadyIn arc t p
-  ready-in p r = record { untaken = not-in t p (λ o. r .untaken (g .sound p (r .inside) o)); sources = source }
+  pub ready-in : (p : ℕ) → Ready conflict unit h l p → ReadyIn arc t p
+  ready-in p r = record { untaken = not-in t p (λ o. r .untaken (g .places .sound p (r .inside) o)); sources = source }
     where
       source : (x : ℕ) → x < row-bits → bit-at arc p x ≡ 1 → InSet t x
       source x s b =
           let a : Arc conflict unit h x p = marks .sound x p s (omega (arith, r .inside)) b in
-          g .complete x (arc-source conflict unit a) (r .sources x a)
+          g .places .complete x (arc-source conflict unit a) (r .sources x a)
 
   pub taken-more : (p : ℕ) (u : List ℕ) → p < length h → ReadyIn arc t p → NoneReady arc t p → Marked t u 0 p → TakenAs conflict unit h (l ++ run h p ∷ []) u
   taken-more p u i f low m = record {
     greedy = turn (g .greedy) r (λ k q. least k q (decLe p k));
-    sound = λ q j e. taken-turn conflict unit h l p q r j .1 (sound-at q j e (ℕ-discrete q p));
-    complete = λ q j k. complete-at q j (taken-turn conflict unit h l p q r j .0 k);
+    places = taken-added small (g .places) m (λ q j. taken-turn conflict unit h l p q r j);
   }
     where
       r : Ready conflict unit h l p
@@ -57,14 +54,6 @@ module _ (conflict : ℕ → ℕ → ℕ → ℕ → Bool) (unit : ℕ → ℕ �
       least : (k : ℕ) → Ready conflict unit h l k → Dec (p ≤ k) → p ≤ k
       least k q (yes v) = v
       least k q (no v) = absurd (low .none k (omega arith) (ready-in k q))
-
-      sound-at : (q : ℕ) → q < length h → InSet u q → Dec (q ≡ p) → Taken h l q ⊎ (q ≡ p)
-      sound-at q j e (yes z) = inr z
-      sound-at q j e (no z) = inl (g .sound q j (sym (added-other m q (omega arith) z) ∙ e))
-
-      complete-at : (q : ℕ) → q < length h → Taken h l q ⊎ (q ≡ p) → InSet u q
-      complete-at q j (inr e) = rw e (m .here)
-      complete-at q j (inl k) = added-in m q (omega arith) (g .complete q j k)
 
 -- after `count` turns: the run numbers in front of order, the set of the places, and `from`, below which all are taken
 pub record TurnsSoFar (history : List ℕ) (n : ℕ) (arc order taken : List ℕ) (from count : ℕ) : Type 0 where
@@ -83,13 +72,10 @@ turns-none history n arc order k e = record {
   below = all-none (replicate k 0);
   size = e;
   long = refl;
-  taken-as = λ conflict unit a. record { greedy = start; sound = λ p i e. absurd (both-ways (zeros-bit k 0 p) e); complete = λ p i t. absurd (low (ordinal (take n history) p) t) };
+  taken-as = λ conflict unit a. record { greedy = start; places = none-taken (take n history) k };
 }
-  where
-    low : (k : ℕ) → k < 0 → ⊥
-    low k l = omega arith
 
-module _ (history : List ℕ) (n : ℕ) (arc : List ℕ) (hs : Stored history n) where
+module _ (history : List ℕ) (n : ℕ) (arc : List ℕ) (hs : HistoryOf history n) where
   small : length (take n history) ≤ row-bits
   small = omega (arith, history-length hs, hs .within)
 

@@ -1,7 +1,15 @@
 -- The laws that the proofs of `judge` cite.
+--   ReadyPlaces   sets of places as rows of bits, and the smallest ready place: `is_ready`, `untaken`, `ready`
+--   GreedyTurns   a turn of `greedy` is one of theory's greedy order
+--   WalkBack      `find_cycle`: the places walked are distinct, so one comes again
+--   Verdicts      `judge_arcs`, `passes`: turns that take every place are a relatively serial order; else there is a cycle
+--   BookHistory   `judge_book`, `passes`: the table marks the arcs of the book's own conflict and unit
+--   Bytes         `judge`, of the book that the reader hands over
+--   Uncut         for demand 2: passed exactly if relatively serializable, and without cuts if conflict serializable
+-- `judge` meets `BytesJudged` by Bytes, from `judge_book`, which judges graph's table of arcs. Verdicts makes PassedAs of the turns by theory's
+-- `whole-greedy`, and TangledAs of the walk back by theory's `cycle-refutes`.
 pub mod ReadyPlaces
 pub mod GreedyTurns
-pub mod Copying
 pub mod WalkBack
 pub mod Verdicts
 pub mod BookHistory

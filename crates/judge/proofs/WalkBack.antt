@@ -1,24 +1,27 @@
 -- Back from source to source: the walk's places are distinct, so one comes again, and what lies between is a cycle.
-use Prim.Native.Nat.{ℕ, zero, suc, _+_, _-_, _*_, _≤_, _<_, zero-le, suc-le-suc}
+use Prim.Native.Nat.{ℕ, zero, suc, _+_, _-_, _≤_, _<_, zero-le, suc-le-suc}
 use native.Mathlib.Nat.{lt-irrefl, not-suc-le-zero}
 use native.Mathlib.Decide.{ℕ-discrete, decLt}
 use native.Mathlib.Omega.{arith}
-use mathlib.Core.Path.{_≡_, refl, sym, ap, _∙_, subst}
+use mathlib.Core.Path.{_≡_, sym, ap, _∙_, subst}
 use mathlib.Core.Logic.{_⊎_, inl, inr, _≢_}
 use mathlib.Core.List.{List, [], _∷_}
 use mir.Val.{Fits}
-use mir.Syntax.{w8, w64}
+use mir.Syntax.{w8}
 use lib.ListN.{length, getD, take, drop, set, length-set, length-drop, replicate, length-replicate}
 use lib.Seq.{getD-set-same, getD-set-other, getD-take, getD-drop, length-take-le}
 use Rattle.theory.proofs.Finite.{below-suc}
-use Rattle.theory.proofs.Cycles.{NotIn, Distinct, Below, pigeonhole}
+use Rattle.theory.proofs.Cycles.{NotIn, Distinct, AllBelow, pigeonhole}
 use Rattle.bits.specs.Table.{row-bits, bit-at, difference}
 use Rattle.bits.specs.First.{FirstAt, NoColumn, First}
 use Rattle.bits.specs.declared.Found.{Found}
 use Rattle.bits.specs.declared.Found.the-variants.{At, Nothing}
 use Rattle.bits.proofs.Store.{bit-at-lt}
+use Rattle.buffer.specs.Put.{Put}
 use Rattle.book.specs.Format.{step-limit}
-use Rattle.judge.specs.Inner.{InSet, FirstUntaken, ArcIn, Stuck, CycleIn, Copied}
+use Rattle.theory.proofs.Lists.{getD-zeros}
+use Rattle.judge.specs.inner.Turns.{InSet, FirstUntaken}
+use Rattle.judge.specs.inner.Cycles.{ArcIn, Stuck, CycleIn}
 
 -- ---- lists by their elements
 
@@ -30,7 +33,7 @@ distinct-of : (xs : List ℕ) → ((i j : ℕ) → i < j → j < length xs → g
 distinct-of [] f = tt
 distinct-of (x ∷ xs) f = (notin-of x xs (λ j l. f zero (suc j) (suc-le-suc zero-le) (suc-le-suc l)), distinct-of xs (λ i j a b. f (suc i) (suc j) (suc-le-suc a) (suc-le-suc b)))
 
-below-of : (n : ℕ) (xs : List ℕ) → ((i : ℕ) → i < length xs → getD xs i 0 < n) → Below n xs
+below-of : (n : ℕ) (xs : List ℕ) → ((i : ℕ) → i < length xs → getD xs i 0 < n) → AllBelow n xs
 below-of n [] f = tt
 below-of n (x ∷ xs) f = (f zero (suc-le-suc zero-le), below-of n xs (λ i l. f (suc i) (suc-le-suc l)))
 
@@ -72,40 +75,32 @@ pub record Walked (arc taken : List ℕ) (n : ℕ) (trail seen : List ℕ) (v le
   pub fresh : getD seen v 0 ≡ 0
   pub last : (k : ℕ) → suc k ≡ len → bit-at arc (place trail k) v ≡ 1
 
-zeros : (n i : ℕ) → _≡_ {A = ℕ} (getD (replicate n 0) i 0) 0
-zeros zero i = refl
-zeros (suc n) zero = refl
-zeros (suc n) (suc i) = zeros n i
-
 pub walked-none : (arc taken : List ℕ) (n v : ℕ) → Stuck arc taken n → FirstUntaken taken n v → Walked arc taken n (replicate step-limit 0) (replicate step-limit 0) v 0
 walked-none arc taken n v st f = record {
   so-far = record {
     trail-size = length-replicate {A = ℕ} step-limit 0;
     seen-size = length-replicate {A = ℕ} step-limit 0;
     within = omega arith;
-    places = λ k l. absurd (low k l);
-    sources = λ k l. absurd (low (suc k) l);
-    unseen = λ x k i z l. absurd (low k l);
+    places = λ k l. absurd (not-suc-le-zero l);
+    sources = λ k l. absurd (not-suc-le-zero l);
+    unseen = λ x k i z l. absurd (not-suc-le-zero l);
     seen-at = λ x s i e. absurd (never x s e);
-    distinct = λ j k l b. absurd (low k b);
+    distinct = λ j k l b. absurd (not-suc-le-zero b);
   };
   inside = o .inside;
   untaken = o .untaken;
-  fresh = zeros step-limit v;
+  fresh = getD-zeros step-limit v;
   last = λ k e. absurd (ne k e);
 }
   where
     o : Open taken n v
     o = open-first arc taken n v st f
 
-    low : (k : ℕ) → k < 0 → ⊥
-    low k l = omega arith
-
     ne : (k : ℕ) → suc k ≡ 0 → ⊥
     ne k e = omega arith
 
     never : (x s : ℕ) → getD (replicate step-limit 0) x 0 ≡ suc s → ⊥
-    never x s e = omega (arith, zeros step-limit x)
+    never x s e = omega (arith, getD-zeros step-limit x)
 
 module _ (arc taken : List ℕ) (n : ℕ) (st : Stuck arc taken n) (trail seen : List ℕ) (v len : ℕ) (w : Walked arc taken n trail seen v len) where
   t : Trail arc n trail seen len
@@ -226,6 +221,9 @@ module _ (arc taken : List ℕ) (n : ℕ) (st : Stuck arc taken n) (trail seen :
   pub v-byte : Fits w8 v
   v-byte = record { fits = omega (arith, v-limit) }
 
+  pub number-byte : Fits w8 (len + 1)
+  number-byte = record { fits = omega (arith, room-limit) }
+
   module _ (x : ℕ) (f : Found) (so : First (difference (bit-at arc v) (bit-at taken 0)) f) (ef : f ≡ At x) where
     src : FirstAt (difference (bit-at arc v) (bit-at taken 0)) x
     src = subst (First (difference (bit-at arc v) (bit-at taken 0))) ef so
@@ -242,10 +240,6 @@ module _ (arc taken : List ℕ) (n : ℕ) (st : Stuck arc taken n) (trail seen :
     pub x-limit : x < step-limit
     x-limit = omega (arith, x-in, st .within)
 
-    -- the offset of x in `seen`
-    pub x-offset : Fits w64 (x * 2)
-    x-offset = record { fits = omega (arith, x-limit) }
-
     pub walked-more : (s : ℕ) → s ≡ getD (set seen v (len + 1)) x 0 → s ≡ 0 → Walked arc taken n (set trail (step-limit - (len + 1)) v) (set seen v (len + 1)) x (len + 1)
     unfolding trail′ seen′
     walked-more s es z = record {
@@ -261,40 +255,41 @@ module _ (arc taken : List ℕ) (n : ℕ) (st : Stuck arc taken n) (trail seen :
       unfolding seen′
       at-s = let e : s ≡ suc (s - 1) = omega arith in pushed .seen-at x (s - 1) x-in (sym es ∙ e)
 
-      pub s-limit : s ≤ len + 1 + 1
-      s-limit = omega (arith, at-s .0)
+      pub s-limit : s ≤ step-limit + 1
+      s-limit = omega (arith, at-s .0, room-limit)
 
-      pub part-limit : (step-limit - (len + 1)) + (len + 1 + 1 - s) ≤ step-limit
-      part-limit = omega (arith, at-s .0, room-limit, nz)
+      pub part-start : step-limit - (len + 1) ≤ step-limit + 1 - s
+      part-start = omega (arith, at-s .0, room-limit)
 
-      pub trail-long : length (set trail (step-limit - (len + 1)) v) ≡ step-limit
+      pub part-end : step-limit + 1 - s ≤ length (set trail (step-limit - (len + 1)) v)
       unfolding trail′
-      trail-long = pushed .trail-size
+      part-end = omega (arith, pushed .trail-size, nz)
 
-      pub closed : (cycle now cycle′ : List ℕ) → now ≡ cycle
-          → Copied (drop (step-limit - (len + 1)) (set trail (step-limit - (len + 1)) v)) now cycle′ (len + 1 + 1 - s)
-          → CycleIn arc n cycle cycle′ (len + 1 + 1 - s)
+      pub closed : (cycle now cycle′ : List ℕ) (count : ℕ) → now ≡ cycle
+          → Put (take (step-limit + 1 - s - (step-limit - (len + 1))) (drop (step-limit - (len + 1)) (set trail (step-limit - (len + 1)) v))) now cycle′ count
+          → CycleIn arc n cycle cycle′ count
       unfolding trail′
-      closed cycle now cycle′ eo c = record {
+      closed cycle now cycle′ count eo p = rw (put .count ∙ c-length) (record {
         places = c-places;
-        counted = sym c-length;
         least = omega (arith, at-s .0);
         most = omega (arith, room, nz);
         distinct = λ i j l b. rw (c-at i (omega arith), c-at j b) (λ q. pushed .distinct (len - j) (len - i) (omega (arith, at-s .0, nz)) (omega arith) (sym q));
         next = c-next;
         back = c-back;
-        written = rw (← eo) (c .is);
-        same-length = c .same-length ∙ ap length eo;
-      }
+        written = record { bytes = rw (← eo) (put .bytes); count = sym c-length };
+      })
         where
-          r : ℕ
-          r = len + 1 + 1 - s
-
           a : ℕ
           a = step-limit - (len + 1)
 
+          r : ℕ
+          r = len + 1 + 1 - s
+
           c-places : List ℕ
           c-places = take r (drop a trail′)
+
+          put : Put c-places now cycle′ count
+          put = let e : step-limit + 1 - s - a ≡ r = omega (arith, room-limit) in rw (← e) p
 
           c-length : length c-places ≡ r
           c-length = length-take-le r (drop a trail′) (omega (arith, length-drop a trail′, pushed .trail-size, room-limit, nz))

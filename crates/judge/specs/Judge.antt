@@ -5,10 +5,11 @@ use mathlib.Core.Logic.{_⊎_}
 use mathlib.Core.List.{List}
 use lib.ListN.{length}
 use Rattle.book.specs.Format.{Outcome, refused, accepted, step-limit, read}
+use Rattle.book.specs.Numbers.{refused-with}
 use Rattle.book.specs.Meaning.{conflict-of, unit-of}
 use Rattle.book.specs.declared.Cause.{Cause}
 use Rattle.book.specs.declared.Cause.the-variants.{JudgeBufferShort}
-use Rattle.judge.specs.Judged.{JudgedAs}
+use Rattle.judge.specs.Judged.{verdict-numbers, JudgedAs}
 use Rattle.judge.specs.declared.Verdict.the-variants.{Refused}
 use Rattle.judge.specs.declared.Judgement.{Judgement}
 
@@ -17,6 +18,7 @@ module _ (order order′ cycle cycle′ : List ℕ) where
   -- refused by a cause at a place: everything is left unchanged
   pub record RefusedAs (cause : Cause) (place : ℕ) (r : Judgement) : Type 0 where
     pub verdict-is : r .verdict ≡ Refused cause place
+    pub numbers : verdict-numbers (r .verdict) ≡ refused-with cause place
     pub count-is : r .count ≡ 0
     pub order-kept : order′ ≡ order
     pub cycle-kept : cycle′ ≡ cycle

@@ -6,8 +6,15 @@ use mathlib.Core.List.{List, _++_}
 use lib.ListN.{length, drop}
 use Rattle.theory.specs.Relative.{RelativelySerialOrder, RelativelySerializable}
 use Rattle.theory.specs.Graph.{Cycle, Greedy}
+use Rattle.book.specs.Numbers.{Numbers, refused-with, value-of}
 use Rattle.judge.specs.declared.Verdict.{Verdict}
 use Rattle.judge.specs.declared.Verdict.the-variants.{Refused, Passed, Tangled}
+
+-- each case in numbers: the verdict is 0 for refused, 1 for passed, 2 for tangled
+abbrev pub verdict-numbers : Verdict → Numbers
+verdict-numbers (Refused cause place) = refused-with cause place
+verdict-numbers Passed = value-of 1
+verdict-numbers Tangled = value-of 2
 
 -- order and cycle are the buffers before the call, order′ and cycle′ after it
 module _ (conflict : ℕ → ℕ → ℕ → ℕ → Bool) (unit : ℕ → ℕ → ℕ → ℕ) (h order order′ cycle cycle′ : List ℕ) where

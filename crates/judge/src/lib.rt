@@ -6,18 +6,22 @@ use book::Answer;
 use book::Book;
 use book::Cause;
 ghost use mathlib.Core.Path.{_≡_};
-ghost use Prim.Native.Nat.{_+_, _<_, _≤_};
-ghost use lib.ListN.{length, take, drop};
+ghost use Prim.Native.Nat.{_<_, _≤_};
+ghost use lib.ListN.{length, take};
+ghost use Rattle.theory.specs.Relative.{RelativelySerializable};
 ghost use Rattle.bits.specs.Table.{row-bits};
 ghost use Rattle.book.specs.Format.{step-limit};
 ghost use Rattle.book.specs.Meaning.{conflict-of, unit-of};
 ghost use Rattle.book.specs.Book.{contents-of, Valid};
 ghost use Rattle.graph.specs.Answers.{Answers};
+ghost use Rattle.graph.specs.inner.Tables.{HistoryOf};
 ghost use Rattle.judge.specs.Judged.{JudgedAs};
 ghost use Rattle.judge.specs.Judge.{BytesJudged};
 ghost use Rattle.judge.specs.Front.{front-of};
 ghost use Rattle.judge.specs.declared.Verdict.the-variants.{Refused};
-ghost use Rattle.judge.specs.Inner.{ReadyIn, AllTaken, FirstUntaken, FirstReady, Stored, TurnsTaken, Stuck, CycleIn, Copied, Graph, JudgedArcs};
+ghost use Rattle.judge.specs.inner.Turns.{ReadyIn, AllTaken, FirstUntaken, FirstReady, TurnsTaken};
+ghost use Rattle.judge.specs.inner.Cycles.{Stuck, CycleIn};
+ghost use Rattle.judge.specs.inner.Arcs.{ArcTable, JudgedArcs};
 
 // What the judge says of a history: passed, if it is relatively serializable, else tangled; or refused, with the cause and the place.
 pub enum Verdict {
@@ -32,20 +36,11 @@ pub struct Judgement {
     pub count: usize,
 }
 
-// As many places as a history has at most.
-const PLACES: usize = Book::STEPS;
-
 // The turns so far: how many, the run numbers of the places taken, in that order, and the set of these places.
 struct Turns {
     count: usize,
-    order: [u8; PLACES],
+    order: [u8; Book::STEPS],
     taken: Row,
-}
-
-fn wide(x: u16) -> usize
-    ensures { λ r. ⌜ r ≡ x ⌝ }
-{
-    x as usize
 }
 
 // Whether p is not taken and all sources of its arcs are.
@@ -91,11 +86,11 @@ fn ready(arc: &Table, taken: &Row, from: usize, n: usize) -> Found
 }
 
 // Turn by turn the smallest ready place, as far as it goes.
-fn greedy(history: &[u8; PLACES], n: usize, arc: &Table) -> Turns
-    requires { ⌜ Stored (now history) n ⌝ }
+fn greedy(history: &[u8; Book::STEPS], n: usize, arc: &Table) -> Turns
+    requires { ⌜ HistoryOf (now history) n ⌝ }
     ensures { λ r. ⌜ TurnsTaken (now (history .entry)) n (now (arc .entry)) r ⌝ }
 {
-    let mut order = [0u8; PLACES];
+    let mut order = [0u8; Book::STEPS];
     let mut taken = [0u64; bits::ROW_WORDS];
     let mut from = 0;
     let mut count = 0;
@@ -123,39 +118,28 @@ fn greedy(history: &[u8; PLACES], n: usize, arc: &Table) -> Turns
     }
 }
 
-// Copies the bytes of src from `at` on, count of them, to the front of out.
-fn copy_part(src: &[u8; PLACES], at: usize, count: usize, out: &mut [u8])
-    requires { ⌜ (length (now src) ≡ step-limit) × (at + count ≤ step-limit) × (count ≤ length (now out)) ⌝ }
-    ensures { λ _. ⌜ Copied (drop at (now (src .entry))) (now (out .entry)) (now (out .exit)) count ⌝ }
-{
-    let mut i = 0;
-    while i < count {
-        out[i] = src[at + i];
-        i += 1;
-    }
-}
-
 // A cycle of the arcs, where no place is ready: back from source to source, none of them taken, until a place comes again.
 fn find_cycle(arc: &Table, n: usize, taken: &Row, cycle: &mut [u8]) -> usize
     requires { ⌜ Stuck (now arc) (now taken) n × (step-limit ≤ length (now cycle)) ⌝ }
     ensures { λ r. ⌜ CycleIn (now (arc .entry)) n (now (cycle .entry)) (now (cycle .exit)) r ⌝ }
 {
     // The walk stands at the end of `trail`, its last place first; `seen` has the number of each place on it, from 1.
-    let mut trail = [0u8; PLACES];
-    let mut seen = [0u16; PLACES];
+    let mut trail = [0u8; Book::STEPS];
+    let mut seen = [0u8; Book::STEPS];
     let mut v = untaken(taken, 0, n);
     let mut len = 0;
-    while len < PLACES {
+    while len < Book::STEPS {
         len += 1;
-        trail[PLACES - len] = v as u8;
-        seen[v] = len as u16;
+        trail[Book::STEPS - len] = v as u8;
+        seen[v] = len as u8;
         match bits::first_outside(arc, v, taken) {
             Found::At(x) => {
-                let s = wide(seen[x]);
+                let s = book::wide(seen[x]);
                 if s != 0 {
-                    let count = len + 1 - s;
-                    copy_part(&trail, PLACES - len, count, cycle);
-                    return count;
+                    let walk = &trail[..];
+                    let at = Book::STEPS - len;
+                    let end = Book::STEPS + 1 - s;
+                    return buffer::put_bytes(&walk[at..end], cycle);
                 }
                 v = x;
             }
@@ -171,19 +155,19 @@ fn find_cycle(arc: &Table, n: usize, taken: &Row, cycle: &mut [u8]) -> usize
 
 // The judge of the first n places of a history, whose arcs the table marks.
 fn judge_arcs(
-    history: &[u8; PLACES],
+    history: &[u8; Book::STEPS],
     n: usize,
     arc: &Table,
     order: &mut [u8],
     cycle: &mut [u8],
 ) -> Judgement
-    requires { ⌜ Stored (now history) n × Graph (take n (now history)) (now arc) × (step-limit ≤ length (now order)) × (step-limit ≤ length (now cycle)) ⌝ }
+    requires { ⌜ HistoryOf (now history) n × ArcTable (take n (now history)) (now arc) × (step-limit ≤ length (now order)) × (step-limit ≤ length (now cycle)) ⌝ }
     ensures { λ r. ⌜ JudgedArcs (take n (now (history .entry))) (now (arc .entry)) (now (order .entry)) (now (order .exit)) (now (cycle .entry)) (now (cycle .exit)) r ⌝ }
 {
     let t = greedy(history, n, arc);
     if t.count == n {
         let turns = t.order;
-        copy_part(&turns, 0, n, order);
+        buffer::put_bytes(&turns[..n], order);
         return Judgement {
             verdict: Verdict::Passed,
             count: n,
@@ -208,6 +192,19 @@ pub fn judge_book(b: Book, order: &mut [u8], cycle: &mut [u8]) -> Judgement
     judge_arcs(&history, b.done, &arc, order, cycle)
 }
 
+// Whether the judge passes a valid book's history, without evidence: whether the turns take every place.
+pub fn passes(b: Book) -> bool
+    requires { ⌜ Valid b ⌝ }
+    ensures { λ r. ⌜ Answers (RelativelySerializable (conflict-of (contents-of b)) (unit-of (contents-of b)) (contents-of b .history)) r ⌝ }
+{
+    let mut arc = [0u64; bits::TABLE_WORDS];
+    graph::arcs(b, &mut arc);
+    let history = b.history;
+    let n = b.done;
+    let turns = greedy(&history, n, &arc);
+    turns.count == n
+}
+
 // A refusal, with nothing filled.
 fn refused(cause: Cause, place: usize) -> Judgement
     ensures { λ r. ⌜ r ≡ record { verdict = Refused cause place; count = 0 } ⌝ }
@@ -218,17 +215,17 @@ fn refused(cause: Cause, place: usize) -> Judgement
     }
 }
 
-// The judge of a book's bytes. Both buffers have at least PLACES bytes, or the judge refuses.
+// The judge of a book's bytes. Both buffers have at least Book::STEPS bytes, or the judge refuses.
 pub fn judge(s: &[u8], order: &mut [u8], cycle: &mut [u8]) -> Judgement
     ensures { λ r. ⌜ BytesJudged (now (order .entry)) (now (order .exit)) (now (cycle .entry)) (now (cycle .exit)) (now (s .entry)) r ⌝ }
 {
-    if order.len() < PLACES {
+    if order.len() < Book::STEPS {
         return refused(Cause::JudgeBufferShort, 0);
     }
-    if cycle.len() < PLACES {
+    if cycle.len() < Book::STEPS {
         return refused(Cause::JudgeBufferShort, 0);
     }
-    let reading = book::read(s);
+    let reading = reader::read(s);
     let answer = reading.answer;
     match answer {
         Answer::Refused(cause, place) => refused(cause, place),

@@ -17,7 +17,7 @@ fn write_refused(number: u8, place: usize) {
 }
 
 fn write_answer(s: &[u8]) {
-    let r = book::read(s);
+    let r = reader::read(s);
     let answer = r.answer;
     match answer {
         Answer::Refused(cause, place) => {

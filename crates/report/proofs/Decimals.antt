@@ -9,8 +9,11 @@ use native.Mathlib.Omega.{arith}
 use lib.ListN.{length, getD, length-append, List·getD-append}
 use lib.Dec.{ltb}
 use borrow.Author.Tests.{ltb-true, ltb-false, lt-ltb, le-ltb}
+use mir.Val.{Fits}
+use mir.Syntax.{w64}
 use Rattle.report.specs.Letters.{digit}
 use Rattle.report.specs.Text.{digits, decimal}
+use Rattle.report.specs.inner.Widths.{number-digits, number-limit, place-digits}
 
 -- ---- one digit more
 
@@ -60,7 +63,7 @@ pub decimal-some : (x : ℕ) → 1 ≤ length (decimal x)
 decimal-some x = ⊎-elim (λ h. rw (decimal-small x h) (suc-le-suc zero-le)) (λ h. omega (arith, decimal-longer x h)) (one-or-more x)
 
 -- a number below the (k+1)-th power of ten has at most k + 1 digits
-pub decimal-length : (k x : ℕ) → x < 10 ^ suc k → length (decimal x) ≤ suc k
+decimal-length : (k x : ℕ) → x < 10 ^ suc k → length (decimal x) ≤ suc k
 decimal-length zero x b = rw (decimal-small x (omega arith)) (suc-le-suc zero-le)
 decimal-length (suc k) x b = ⊎-elim
     (λ h. rw (decimal-small x h) (suc-le-suc zero-le))
@@ -68,6 +71,12 @@ decimal-length (suc k) x b = ⊎-elim
     let t : x / 10 < 10 ^ suc k = omega arith in
     omega (arith, decimal-longer x h, decimal-length k (x / 10) t))
     (one-or-more x)
+
+pub decimal-few : (x : ℕ) → x < number-limit → length (decimal x) ≤ number-digits
+decimal-few x h = decimal-length 2 x h
+
+pub decimal-any : (x : ℕ) → Fits w64 x → length (decimal x) ≤ place-digits
+decimal-any x h = decimal-length 19 x (omega arith)
 
 -- ---- base ten without leading zeros: read back, the digits give the number; the first is 0 of the number 0 only; each is 0 to 9
 

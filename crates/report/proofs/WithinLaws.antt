@@ -5,9 +5,9 @@ use mathlib.Core.List.{List, _++_}
 use native.Mathlib.Omega.{arith}
 use lib.ListN.{length}
 use borrow.Rule.Slice.PartMut.{midOf, putMid}
-use Rattle.writer.specs.Put.{Put}
-use Rattle.report.specs.Inner.{PutWithin}
-use Rattle.writer.proofs.PutLaws.{behind, put-is}
+use Rattle.buffer.specs.Put.{Put}
+use Rattle.buffer.proofs.PutLaws.{behind, put-is}
+use Rattle.report.specs.inner.Lines.{PutWithin}
 
 pub within-limit : {bs before after : List ℕ} {r : ℕ} (limit : ℕ) → Put bs before after r → length bs ≤ limit → PutWithin limit bs before after r
 within-limit limit p h = record { put = p; within = omega (arith, p .count) }

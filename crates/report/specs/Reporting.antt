@@ -1,19 +1,18 @@
 -- What `report` promises: the text of what the definitions say of a book's bytes (document 01, "Class tests, evidence, writer, program").
-use Prim.Native.Nat.{ℕ, _+_, _*_, _≤_, _<_}
+use Prim.Native.Nat.{ℕ}
 use mathlib.Core.Path.{_≡_}
 use mathlib.Core.Bool.{Bool}
-use mathlib.Core.List.{List, _++_}
-use lib.ListN.{length, drop}
+use mathlib.Core.List.{List}
+use lib.ListN.{length}
 use Rattle.theory.specs.History.{Serial}
 use Rattle.theory.specs.Relative.{RelativelyAtomic, RelativelySerial, ConflictSerializable, RelativelySerializable, RelativelySerialOrder}
 use Rattle.theory.specs.Graph.{Cycle, Greedy}
 use Rattle.theory.specs.Rows.{Is}
-use Rattle.book.specs.Format.{Contents, Outcome, refused, accepted, step-limit, read}
+use Rattle.buffer.specs.Put.{Put}
+use Rattle.book.specs.Format.{Contents, Outcome, refused, accepted}
 use Rattle.book.specs.Numbers.{number}
 use Rattle.book.specs.Meaning.{conflict-of, unit-of}
 use Rattle.report.specs.Text.{Verdict, passed, tangled, Findings, Report, refused-at, accepted-with, text-of}
-use Rattle.report.specs.declared.Reported.{Reported}
-use Rattle.report.specs.declared.Reported.the-variants.{Length, BufferShort}
 
 -- ---- what is said of a book
 
@@ -43,23 +42,9 @@ ReportOn (accepted c) (accepted-with w) = FindingsOn c w
 
 -- ---- what the call does
 
--- as long as a text is at most, in bytes: six lines of 9, 11, 11, 14, 13 and 16, and a last one of 6 and 4 for each place
-abbrev pub text-limit : ℕ
-text-limit = 80 + 4 * step-limit
-
--- the report on the bytes s; the buffer begins with its text, what lies behind is as before, and the text's length is n
-pub record TextPut (s before after : List ℕ) (n : ℕ) : Type 0 where
+-- a call of `report` on bytes whose reading has the outcome o: the buffer begins with the text of the report on it, what lies behind is as
+-- before, and the answer n is the text's length
+pub record Reports (o : Outcome) (before after : List ℕ) (n : ℕ) : Type 0 where
   pub report : Report
-  pub report-on : ReportOn (read s) report
-  pub fits : length (text-of report) ≤ text-limit
-  pub buffer : after ≡ text-of report ++ drop (length (text-of report)) before
-  pub length-is : n ≡ length (text-of report)
-
--- the answer is the text's length, or that the buffer is short; document 01 has no number for that, since the program's own buffer is long enough
-abbrev pub ReportedAs : List ℕ → List ℕ → List ℕ → Reported → Type 0
-ReportedAs s before after (Length n) = (text-limit ≤ length before) × TextPut s before after n
-ReportedAs s before after BufferShort = (length before < text-limit) × (after ≡ before)
-
--- a call of `report` on the bytes s: which answer it gives is told by the buffer's length alone
-pub record Reports (s before after : List ℕ) (r : Reported) : Type 0 where
-  pub reported : ReportedAs s before after r
+  pub report-on : ReportOn o report
+  pub put : Put (text-of report) before after n

@@ -3,6 +3,7 @@ use Prim.Native.Nat.{ℕ, zero, suc, _/_, _%_}
 use mathlib.Core.Bool.{Bool, true, false, cond}
 use mathlib.Core.List.{List, [], _∷_, _++_}
 use lib.Dec.{ltb}
+use Rattle.buffer.specs.Each.{each}
 use Rattle.report.specs.Letters.{a, c, d, e, f, g, i, l, m, n, o, p, r, s, t, u, v, y, blank, line-end, digit}
 
 -- ---- what is said of a book
@@ -43,8 +44,7 @@ answer-word false = n ∷ o ∷ []
 
 -- one blank before each number
 abbrev pub numbers : List ℕ → List ℕ
-numbers [] = []
-numbers (x ∷ xs) = (blank ∷ decimal x) ++ numbers xs
+numbers = each (λ x. blank ∷ decimal x)
 
 -- each line ends with the byte 0A
 abbrev pub line : List ℕ → List ℕ

@@ -1,33 +1,44 @@
-// The report on a book: the program's text, put into a buffer that the caller lends.
+// The report on a book: the program's text, put into a buffer that the caller lends. Each function that puts bytes answers how many.
 use book::Answer;
 use book::Book;
-use classes::Reply;
+use buffer::put_byte;
+use buffer::put_bytes;
 use judge::Verdict;
 ghost use mathlib.Core.Path.{_≡_};
-ghost use mathlib.Core.List.{[], _∷_, _++_};
+ghost use mathlib.Core.List.{_++_};
 ghost use Prim.Native.Nat.{_+_, _*_, _<_, _≤_};
 ghost use lib.ListN.{length};
-ghost use Rattle.report.specs.Letters.{blank};
+ghost use Rattle.buffer.specs.Put.{Put};
+ghost use Rattle.book.specs.Format.{accepted, read, step-limit};
+ghost use Rattle.book.specs.Book.{Valid, contents-of};
 ghost use Rattle.report.specs.Text.{refused-at, accepted-with, text-of, decimal, answer-word, numbers, line, done-line};
-ghost use Rattle.writer.specs.Put.{Put};
-ghost use Rattle.report.specs.Inner.{PutWithin, class-lines, verdict-by, verdict-lines, findings, is-yes, is-passed, ClassesFound, AcceptedWith};
-ghost use Rattle.report.specs.Reporting.{text-limit, TextPut, Reports};
+ghost use Rattle.report.specs.Reporting.{ClassesOn, Reports};
+ghost use Rattle.report.specs.inner.Widths.{number-digits, number-limit, place-digits, number-width, answer-width, done-width, classes-width, verdict-width, evidence-width, refused-width, text-limit};
+ghost use Rattle.report.specs.inner.Lines.{PutWithin, class-lines, is-passed, verdict-by, verdict-lines, findings};
 
-// What `report` answers.
-pub enum Reported {
-    // So many bytes are put: the text's length.
-    Length(usize),
-    // The buffer is shorter than TEXT, and is left as it was.
-    BufferShort,
-}
+// How many bytes each line takes at most: its head, its word or numbers, and the line end.
+const DONE_WIDTH: usize = 5 + 3 + 1;
 
-// How long a buffer always suffices: six lines of 74 bytes together at most, and a last one of 6, with 4 for each place.
-pub const TEXT: usize = 80 + 4 * Book::STEPS;
+const SERIAL_WIDTH: usize = 7 + 3 + 1;
 
-// TEXT is the limit of the definition.
-fn limits()
-    ensures { λ _. do ⌜ (← ⟦TEXT⟧ .entry) ≡ text-limit ⌝ }
-{}
+const ATOMIC_WIDTH: usize = 7 + 3 + 1;
+
+const RELSERIAL_WIDTH: usize = 10 + 3 + 1;
+
+const CONFLICT_WIDTH: usize = 9 + 3 + 1;
+
+const VERDICT_WIDTH: usize = 15 + 1;
+
+const EVIDENCE_WIDTH: usize = 5 + 4 * Book::STEPS + 1;
+
+// The length of the buffer: every text fits.
+pub const TEXT: usize = DONE_WIDTH
+    + SERIAL_WIDTH
+    + ATOMIC_WIDTH
+    + RELSERIAL_WIDTH
+    + CONFLICT_WIDTH
+    + VERDICT_WIDTH
+    + EVIDENCE_WIDTH;
 
 // The answers of the four class tests.
 struct Classes {
@@ -35,28 +46,6 @@ struct Classes {
     atomic: bool,
     relserial: bool,
     conflict: bool,
-}
-
-// The bytes bs.
-fn put_bytes(bs: &[u8], out: &mut [u8]) -> usize
-    requires { ⌜ length (now bs) ≤ length (now out) ⌝ }
-    ensures { λ r. ⌜ Put (now (bs .entry)) (now (out .entry)) (now (out .exit)) r ⌝ }
-{
-    let mut i = 0;
-    while i < bs.len() {
-        out[i] = bs[i];
-        i += 1;
-    }
-    i
-}
-
-// One byte.
-fn put_byte(b: u8, out: &mut [u8]) -> usize
-    requires { ⌜ 1 ≤ length (now out) ⌝ }
-    ensures { λ r. ⌜ Put (b ∷ []) (now (out .entry)) (now (out .exit)) r ⌝ }
-{
-    out[0] = b;
-    1
 }
 
 // A number in base ten: all digits but the last, then the last.
@@ -72,41 +61,35 @@ fn put_decimal(x: usize, out: &mut [u8]) -> usize
     k + m
 }
 
-// A number below 1,000: three digits at most.
-fn put_small(x: usize, out: &mut [u8]) -> usize
-    requires { ⌜ (x < 1000) × (3 ≤ length (now out)) ⌝ }
-    ensures { λ r. ⌜ PutWithin 3 (decimal x) (now (out .entry)) (now (out .exit)) r ⌝ }
+// A head and a number below 1,000.
+fn put_number(head: &[u8], x: usize, out: &mut [u8]) -> usize
+    requires { ⌜ (x < number-limit) × (length (now head) + number-digits ≤ length (now out)) ⌝ }
+    ensures { λ r. ⌜ PutWithin (length (now (head .entry)) + number-digits) (now (head .entry) ++ decimal x) (now (out .entry)) (now (out .exit)) r ⌝ }
 {
-    put_decimal(x, out)
+    let n = put_bytes(head, &mut out[..]);
+    let m = put_decimal(x, &mut out[n..]);
+    n + m
 }
 
-// A place of any book: 20 digits at most.
-fn put_place(x: usize, out: &mut [u8]) -> usize
-    requires { ⌜ 20 ≤ length (now out) ⌝ }
-    ensures { λ r. ⌜ PutWithin 20 (decimal x) (now (out .entry)) (now (out .exit)) r ⌝ }
+// A head and a place of any book.
+fn put_place(head: &[u8], x: usize, out: &mut [u8]) -> usize
+    requires { ⌜ length (now head) + place-digits ≤ length (now out) ⌝ }
+    ensures { λ r. ⌜ PutWithin (length (now (head .entry)) + place-digits) (now (head .entry) ++ decimal x) (now (out .entry)) (now (out .exit)) r ⌝ }
 {
-    put_decimal(x, out)
-}
-
-// A blank and a number.
-fn put_number(x: u8, out: &mut [u8]) -> usize
-    requires { ⌜ 4 ≤ length (now out) ⌝ }
-    ensures { λ r. ⌜ PutWithin 4 (blank ∷ decimal x) (now (out .entry)) (now (out .exit)) r ⌝ }
-{
-    let n = put_byte(b' ', &mut out[..]);
-    let m = put_small(book::wide(x), &mut out[n..]);
+    let n = put_bytes(head, &mut out[..]);
+    let m = put_decimal(x, &mut out[n..]);
     n + m
 }
 
 // A blank and a number for each of the list.
 fn put_numbers(list: &[u8], out: &mut [u8]) -> usize
-    requires { ⌜ 4 * length (now list) ≤ length (now out) ⌝ }
-    ensures { λ r. ⌜ PutWithin (4 * length (now (list .entry))) (numbers (now (list .entry))) (now (out .entry)) (now (out .exit)) r ⌝ }
+    requires { ⌜ number-width * length (now list) ≤ length (now out) ⌝ }
+    ensures { λ r. ⌜ PutWithin (number-width * length (now (list .entry))) (numbers (now (list .entry))) (now (out .entry)) (now (out .exit)) r ⌝ }
 {
     let mut at: usize = 0;
     let mut i: usize = 0;
     while i < list.len() {
-        let n = put_number(list[i], &mut out[at..]);
+        let n = put_number(b" ", book::wide(list[i]), &mut out[at..]);
         at += n;
         i += 1;
     }
@@ -115,8 +98,8 @@ fn put_numbers(list: &[u8], out: &mut [u8]) -> usize
 
 // Yes or no, and the line end.
 fn put_answer(yes: bool, out: &mut [u8]) -> usize
-    requires { ⌜ 4 ≤ length (now out) ⌝ }
-    ensures { λ r. ⌜ PutWithin 4 (line (answer-word yes)) (now (out .entry)) (now (out .exit)) r ⌝ }
+    requires { ⌜ answer-width ≤ length (now out) ⌝ }
+    ensures { λ r. ⌜ PutWithin answer-width (line (answer-word yes)) (now (out .entry)) (now (out .exit)) r ⌝ }
 {
     if yes {
         put_bytes(b"yes\n", out)
@@ -127,8 +110,8 @@ fn put_answer(yes: bool, out: &mut [u8]) -> usize
 
 // The line of a class.
 fn put_class(head: &[u8], yes: bool, out: &mut [u8]) -> usize
-    requires { ⌜ length (now head) + 4 ≤ length (now out) ⌝ }
-    ensures { λ r. ⌜ PutWithin (length (now (head .entry)) + 4) (line (now (head .entry) ++ answer-word yes)) (now (out .entry)) (now (out .exit)) r ⌝ }
+    requires { ⌜ length (now head) + answer-width ≤ length (now out) ⌝ }
+    ensures { λ r. ⌜ PutWithin (length (now (head .entry)) + answer-width) (line (now (head .entry) ++ answer-word yes)) (now (out .entry)) (now (out .exit)) r ⌝ }
 {
     let n = put_bytes(head, &mut out[..]);
     let m = put_answer(yes, &mut out[n..]);
@@ -137,20 +120,18 @@ fn put_class(head: &[u8], yes: bool, out: &mut [u8]) -> usize
 
 // The line of done steps.
 fn put_done(done: usize, out: &mut [u8]) -> usize
-    requires { ⌜ (done < 1000) × (9 ≤ length (now out)) ⌝ }
-    ensures { λ r. ⌜ PutWithin 9 (done-line done) (now (out .entry)) (now (out .exit)) r ⌝ }
+    requires { ⌜ (done < number-limit) × (done-width ≤ length (now out)) ⌝ }
+    ensures { λ r. ⌜ PutWithin done-width (done-line done) (now (out .entry)) (now (out .exit)) r ⌝ }
 {
-    let n = put_bytes(b"done ", &mut out[..]);
-    let m = put_small(done, &mut out[n..]);
-    let at = n + m;
-    let k = put_byte(b'\n', &mut out[at..]);
-    at + k
+    let n = put_number(b"done ", done, &mut out[..]);
+    let m = put_byte(b'\n', &mut out[n..]);
+    n + m
 }
 
 // The lines of the four classes.
 fn put_classes(c: Classes, out: &mut [u8]) -> usize
-    requires { ⌜ 49 ≤ length (now out) ⌝ }
-    ensures { λ r. ⌜ PutWithin 49 (class-lines c) (now (out .entry)) (now (out .exit)) r ⌝ }
+    requires { ⌜ classes-width ≤ length (now out) ⌝ }
+    ensures { λ r. ⌜ PutWithin classes-width (class-lines c) (now (out .entry)) (now (out .exit)) r ⌝ }
 {
     let serial_end = put_class(b"serial ", c.serial, &mut out[..]);
     let n = put_class(b"atomic ", c.atomic, &mut out[serial_end..]);
@@ -163,8 +144,8 @@ fn put_classes(c: Classes, out: &mut [u8]) -> usize
 
 // The head, the list's numbers and the line end.
 fn put_list(head: &[u8], list: &[u8], out: &mut [u8]) -> usize
-    requires { ⌜ length (now head) + 4 * length (now list) + 1 ≤ length (now out) ⌝ }
-    ensures { λ r. ⌜ PutWithin (length (now (head .entry)) + 4 * length (now (list .entry)) + 1) (line (now (head .entry) ++ numbers (now (list .entry)))) (now (out .entry)) (now (out .exit)) r ⌝ }
+    requires { ⌜ length (now head) + number-width * length (now list) + 1 ≤ length (now out) ⌝ }
+    ensures { λ r. ⌜ PutWithin (length (now (head .entry)) + number-width * length (now (list .entry)) + 1) (line (now (head .entry) ++ numbers (now (list .entry)))) (now (out .entry)) (now (out .exit)) r ⌝ }
 {
     let n = put_bytes(head, &mut out[..]);
     let m = put_numbers(list, &mut out[n..]);
@@ -175,8 +156,8 @@ fn put_list(head: &[u8], list: &[u8], out: &mut [u8]) -> usize
 
 // The lines of the verdict and of its order or cycle.
 fn put_verdict(passed: bool, list: &[u8], out: &mut [u8]) -> usize
-    requires { ⌜ 22 + 4 * length (now list) ≤ length (now out) ⌝ }
-    ensures { λ r. ⌜ PutWithin (22 + 4 * length (now (list .entry))) (verdict-lines (verdict-by passed (now (list .entry)))) (now (out .entry)) (now (out .exit)) r ⌝ }
+    requires { ⌜ (length (now list) ≤ step-limit) × (verdict-width + evidence-width ≤ length (now out)) ⌝ }
+    ensures { λ r. ⌜ PutWithin (verdict-width + evidence-width) (verdict-lines (verdict-by passed (now (list .entry)))) (now (out .entry)) (now (out .exit)) r ⌝ }
 {
     if passed {
         put_list(b"verdict passed\norder", list, out)
@@ -187,8 +168,8 @@ fn put_verdict(passed: bool, list: &[u8], out: &mut [u8]) -> usize
 
 // The text for an accepted book.
 fn put_findings(done: usize, classes: Classes, passed: bool, list: &[u8], out: &mut [u8]) -> usize
-    requires { ⌜ (done < 1000) × (80 + 4 * length (now list) ≤ length (now out)) ⌝ }
-    ensures { λ r. ⌜ PutWithin (80 + 4 * length (now (list .entry))) (text-of (accepted-with (findings done classes passed (now (list .entry))))) (now (out .entry)) (now (out .exit)) r ⌝ }
+    requires { ⌜ (done < number-limit) × (length (now list) ≤ step-limit) × (text-limit ≤ length (now out)) ⌝ }
+    ensures { λ r. ⌜ Put (text-of (accepted-with (findings done classes passed (now (list .entry))))) (now (out .entry)) (now (out .exit)) r ⌝ }
 {
     let done_end = put_done(done, &mut out[..]);
     let n = put_classes(classes, &mut out[done_end..]);
@@ -199,28 +180,14 @@ fn put_findings(done: usize, classes: Classes, passed: bool, list: &[u8], out: &
 
 // The text for a refused book.
 fn put_refused(number: u8, place: usize, out: &mut [u8]) -> usize
-    requires { ⌜ 36 ≤ length (now out) ⌝ }
-    ensures { λ r. ⌜ PutWithin 36 (text-of (refused-at number place)) (now (out .entry)) (now (out .exit)) r ⌝ }
+    requires { ⌜ refused-width ≤ length (now out) ⌝ }
+    ensures { λ r. ⌜ Put (text-of (refused-at number place)) (now (out .entry)) (now (out .exit)) r ⌝ }
 {
-    let n1 = put_bytes(b"refused ", &mut out[..]);
-    let n2 = put_small(book::wide(number), &mut out[n1..]);
-    let number_end = n1 + n2;
-    let n3 = put_bytes(b" at ", &mut out[number_end..]);
-    let at = number_end + n3;
-    let n4 = put_place(place, &mut out[at..]);
-    let place_end = at + n4;
-    let n5 = put_byte(b'\n', &mut out[place_end..]);
-    place_end + n5
-}
-
-fn is_yes(reply: Reply) -> bool
-    ensures { λ r. ⌜ r ≡ is-yes reply ⌝ }
-{
-    match reply {
-        Reply::Refused(_, _) => false,
-        Reply::Yes => true,
-        Reply::No => false,
-    }
+    let number_end = put_number(b"refused ", book::wide(number), &mut out[..]);
+    let n = put_place(b" at ", place, &mut out[number_end..]);
+    let place_end = number_end + n;
+    let m = put_byte(b'\n', &mut out[place_end..]);
+    place_end + m
 }
 
 fn is_passed(verdict: Verdict) -> bool
@@ -233,14 +200,15 @@ fn is_passed(verdict: Verdict) -> bool
     }
 }
 
-// The four class tests.
-fn classes_of(s: &[u8]) -> Classes
-    ensures { λ r. ⌜ ClassesFound (now (s .entry)) r ⌝ }
+// The four class tests of a valid book.
+fn classes_of(b: Book) -> Classes
+    requires { ⌜ Valid b ⌝ }
+    ensures { λ r. ⌜ ClassesOn (contents-of b) (r .serial) (r .atomic) (r .relserial) (r .conflict) ⌝ }
 {
-    let serial = is_yes(classes::serial(s));
-    let atomic = is_yes(classes::relatively_atomic(s));
-    let relserial = is_yes(classes::relatively_serial(s));
-    let conflict = is_yes(classes::conflict_serializable(s));
+    let serial = classes::is_serial(b);
+    let atomic = classes::is_relatively_atomic(b);
+    let relserial = classes::is_relatively_serial(b);
+    let conflict = classes::is_conflict_serializable(b);
     Classes {
         serial,
         atomic,
@@ -249,39 +217,31 @@ fn classes_of(s: &[u8]) -> Classes
     }
 }
 
-// The text for an accepted book with so many done steps.
-fn put_accepted(s: &[u8], done: usize, out: &mut [u8]) -> usize
-    requires { ⌜ AcceptedWith (now s) done × (text-limit ≤ length (now out)) ⌝ }
-    ensures { λ r. ⌜ TextPut (now (s .entry)) (now (out .entry)) (now (out .exit)) r ⌝ }
+// The text for a valid book.
+fn put_accepted(b: Book, out: &mut [u8]) -> usize
+    requires { ⌜ Valid b × (text-limit ≤ length (now out)) ⌝ }
+    ensures { λ r. ⌜ Reports (accepted (contents-of b)) (now (out .entry)) (now (out .exit)) r ⌝ }
 {
-    let classes = classes_of(s);
+    let classes = classes_of(b);
     let mut order = [0u8; Book::STEPS];
     let mut cycle = [0u8; Book::STEPS];
-    let judgement = judge::judge(s, &mut order, &mut cycle);
+    let judgement = judge::judge_book(b, &mut order, &mut cycle);
     let verdict = judgement.verdict;
     let list = judge::front(&order, &cycle, verdict, judgement.count);
-    put_findings(done, classes, is_passed(verdict), list, out)
+    put_findings(b.done, classes, is_passed(verdict), list, out)
 }
 
-// The text.
-fn put_text(s: &[u8], out: &mut [u8]) -> usize
-    requires { ⌜ text-limit ≤ length (now out) ⌝ }
-    ensures { λ r. ⌜ TextPut (now (s .entry)) (now (out .entry)) (now (out .exit)) r ⌝ }
+// Puts the text of the report on the bytes s into the buffer, and answers its length.
+pub fn report(s: &[u8], out: &mut [u8; TEXT]) -> usize
+    ensures { λ r. ⌜ Reports (read (now (s .entry))) (now (out .entry)) (now (out .exit)) r ⌝ }
 {
-    let reading = book::read(s);
+    let reading = reader::read(s);
     let answer = reading.answer;
     match answer {
         Answer::Refused(cause, place) => put_refused(book::number_of(cause), place, out),
-        Answer::Accepted => put_accepted(s, reading.book.done, out),
+        Answer::Accepted => {
+            let b = reading.book;
+            put_accepted(b, out)
+        }
     }
-}
-
-// Puts the text of the report on the bytes s into the buffer.
-pub fn report(s: &[u8], out: &mut [u8]) -> Reported
-    ensures { λ r. ⌜ Reports (now (s .entry)) (now (out .entry)) (now (out .exit)) r ⌝ }
-{
-    if out.len() < TEXT {
-        return Reported::BufferShort;
-    }
-    Reported::Length(put_text(s, out))
 }

@@ -6,6 +6,7 @@ use native.Mathlib.Omega.{arith}
 use mathlib.Core.Path.{_≡_}
 use mathlib.Core.Logic.{_⊎_, inl, inr}
 use mathlib.Core.Bool.{Bool, true, false}
+use mathlib.Core.HLevel.{dec→stable}
 use lib.Dec.{T}
 
 -- k below suc m is m or below m
@@ -123,11 +124,7 @@ all-below P dec n = go (some-below (λ k. ¬ P k) (λ k. dec-not (dec k)) n)
   where
     go : Dec ((k : ℕ) × (k < n) × (¬ P k)) → Dec ((k : ℕ) → k < n → P k)
     go (yes t) = no (λ f. t .2 (f (t .0) (t .1)))
-    go (no u) = yes (λ k h. at k h (dec k))
-      where
-        at : (k : ℕ) → k < n → Dec (P k) → P k
-        at k h (yes p) = p
-        at k h (no m) = absurd (u (k, h, m))
+    go (no u) = yes (λ k h. dec→stable (dec k) (λ m. u (k, h, m)))
 
 -- where a decision computes to yes, what it decides holds
 abbrev pub is-yes : {A : Type 0} → Dec A → Bool

@@ -8,11 +8,13 @@ use mathlib.Core.Bool.{Bool, not}
 use mathlib.Core.List.{List, [], _∷_}
 use lib.ListN.{length}
 use lib.Dec.{eqb}
-use Rattle.theory.specs.History.{count, run, ordinal, Serial}
+use borrow.Author.Tests.{eq-eqb, ne-eqb}
+use Rattle.theory.specs.History.{count, run, ordinal, Serial, project}
 use Rattle.theory.specs.Relative.{Lawful, Conflicting, direct, Agrees, ConflictSerializable, InUnit, RelativelySerial, RelativelySerializable}
-use Rattle.theory.proofs.Places.{Compared, eq-cases, eqb-of-eq, eqb-of-ne, place-of, place-of-spec, place-of-mono, place-of-back, ordinal-lt}
+use Rattle.theory.specs.inner.Places.{place-of}
+use Rattle.theory.proofs.Places.{Compared, eq-cases, place-of-spec, place-of-mono, place-of-back, ordinal-lt}
 use Rattle.theory.proofs.Steps.{lt-if, at, Within, order-within, at-lt, at-same, same-at, conf-cast, conf-ne}
-use Rattle.theory.proofs.Within.{Restricted, Mono, restricted-mono, project, project-restricted, project-within, count-kept, count-left-out}
+use Rattle.theory.proofs.Within.{Restricted, Mono, restricted-mono, project-restricted, project-within, count-kept, count-left-out}
 use Rattle.theory.proofs.Classes.{conflict-relatively}
 
 -- n times x, and then m
@@ -24,23 +26,23 @@ module _ (x : ℕ) where
   count-block-same : (n : ℕ) (m : List ℕ) → count (block n x m) x ≡ n + count m x
   unfolding block
   count-block-same zero m = omega arith
-  count-block-same (suc n) m = rw (eqb-of-eq x x refl) (omega (arith, count-block-same n m))
+  count-block-same (suc n) m = rw (eq-eqb x x refl) (omega (arith, count-block-same n m))
 
   count-block-other : (r : ℕ) → x ≢ r → (n : ℕ) (m : List ℕ) → count (block n x m) r ≡ count m r
   unfolding block
   count-block-other r ne zero m = refl
-  count-block-other r ne (suc n) m = rw (eqb-of-ne x r ne) (count-block-other r ne n m)
+  count-block-other r ne (suc n) m = rw (ne-eqb x r ne) (count-block-other r ne n m)
 
   place-block-same : (n i : ℕ) (m : List ℕ) → i < n → place-of (block n x m) x i ≡ i
   unfolding block
   place-block-same zero i m k = absurd (not-suc-le-zero k)
-  place-block-same (suc n) zero m k = rw (eqb-of-eq x x refl)
-  place-block-same (suc n) (suc i) m k = rw (eqb-of-eq x x refl) (ap suc (place-block-same n i m (le-of-suc-le-suc k)))
+  place-block-same (suc n) zero m k = rw (eq-eqb x x refl)
+  place-block-same (suc n) (suc i) m k = rw (eq-eqb x x refl) (ap suc (place-block-same n i m (le-of-suc-le-suc k)))
 
   place-block-other : (r : ℕ) → x ≢ r → (n i : ℕ) (m : List ℕ) → place-of (block n x m) r i ≡ n + place-of m r i
   unfolding block
   place-block-other r ne zero i m = omega arith
-  place-block-other r ne (suc n) i m = rw (eqb-of-ne x r ne) (omega (arith, place-block-other r ne n i m))
+  place-block-other r ne (suc n) i m = rw (ne-eqb x r ne) (omega (arith, place-block-other r ne n i m))
 
   -- whatever stands before an x in m is x
   Front : List ℕ → Type 0
@@ -107,10 +109,10 @@ gather (x ∷ l) = go (gather l)
         m = project (but x) g.rest
 
         none : count m x ≡ 0
-        none = count-left-out (but x) x (rw (eqb-of-eq x x refl)) g.rest
+        none = count-left-out (but x) x (rw (eq-eqb x x refl)) g.rest
 
         others : (r : ℕ) → x ≢ r → count m r ≡ count l r
-        others r ne = count-kept (but x) r (rw (eqb-of-ne x r ne)) g.rest ∙ g .counts r
+        others r ne = count-kept (but x) r (rw (ne-eqb x r ne)) g.rest ∙ g .counts r
 
         ser : Serial (block n x m) × Front x (block n x m)
         ser = block-serial x n m (serial-within m g.rest (project-within (but x) g.rest) (restricted-mono (project-restricted (but x) g.rest)) g.serial) (front-none x m none)

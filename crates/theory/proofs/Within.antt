@@ -11,9 +11,12 @@ use mathlib.Core.List.{List, [], _∷_, _++_}
 use lib.ListN.{length, length-append, List·getD-append}
 use lib.Seq.{take-append-le, take-append-seam, getD-append-seam}
 use lib.Dec.{eqb}
-use Rattle.theory.specs.History.{suc-if, count, run, ordinal, Same}
+use borrow.Author.Tests.{ne-eqb}
+use Rattle.theory.specs.History.{suc-if, count, run, ordinal, Same, only, project}
 use Rattle.theory.specs.Relative.{Agrees, RelativelySerial, RelativelySerializable}
-use Rattle.theory.proofs.Places.{Compared, eq-cases, eqb-of-ne, pull, suc-if-le, place-if, place-of, place-of-back, ordinal-lt, count-append, length-snoc}
+use Rattle.theory.specs.inner.Places.{place-if, place-of}
+use Rattle.theory.proofs.Lists.{suc-if-le, count-append, length-snoc}
+use Rattle.theory.proofs.Places.{Compared, eq-cases, pull, place-of-back, ordinal-lt}
 use Rattle.theory.proofs.Finite.{below-suc}
 use Rattle.theory.proofs.Steps.{lt-if, at, Within, at-lt, at-same, same-at, same-sym, same-trans, conf-cast, dep-at, unit-cast}
 
@@ -63,7 +66,7 @@ restrict (x ∷ l) b w = go (decLt 0 (count b x)) (λ c v. restrict l c v)
         low r (inr e) = let f : count b r ≤ count (x ∷ l) r = w r in rw (e .0) at f
 
         other : (r i : ℕ) → i < count b r → eqb x r ≡ false
-        other r i p = eqb-of-ne x r (λ e. let f : count b x ≡ count b r = ap (count b) e in n (omega arith))
+        other r i p = ne-eqb x r (λ e. let f : count b x ≡ count b r = ap (count b) e in n (omega arith))
 
 -- h's steps have h's order in l
 abbrev pub Mono : List ℕ → List ℕ → Type 0
@@ -76,8 +79,8 @@ restricted-mono {b} {l} {m} c p q k j =
     (rw (place-of-back m p i, place-of-back m q j) k)
 
 module _ (conflict : ℕ → ℕ → ℕ → ℕ → Bool) (unit : ℕ → ℕ → ℕ → ℕ) where
-  serial-within : (l l′ : List ℕ) → Within l l′ → Mono l l′ → RelativelySerial conflict unit l′ → RelativelySerial conflict unit l
-  serial-within l l′ w mono serial a b c d bt v u =
+  relserial-within : (l l′ : List ℕ) → Within l l′ → Mono l l′ → RelativelySerial conflict unit l′ → RelativelySerial conflict unit l
+  relserial-within l l′ w mono serial a b c d bt v u =
       let i : a < length l = omega (arith, bt .after, bt .before, bt .inside) in
       let j : b < length l = omega (arith, bt .before, bt .inside) in
       let r : run l b ≡ run l′ (at l l′ b) = sym (at-same l l′ w b j .runs) in
@@ -117,7 +120,7 @@ module _ (conflict : ℕ → ℕ → ℕ → ℕ → Bool) (unit : ℕ → ℕ �
         order = l;
         evidence = record {
           equivalent = record { order = c .counts; agrees = agree-within h h′ l (s .order) w mono lw (restricted-mono c) (s .evidence .equivalent .agrees) };
-          serial = serial-within l (s .order) lw (restricted-mono c) (s .evidence .serial);
+          serial = relserial-within l (s .order) lw (restricted-mono c) (s .evidence .serial);
         };
       }
         where
@@ -162,15 +165,6 @@ module _ (conflict : ℕ → ℕ → ℕ → ℕ → Bool) (unit : ℕ → ℕ �
 
 -- ---- projection to some of the runs (003, Π_T)
 
-abbrev pub only : Bool → ℕ → List ℕ → List ℕ
-only true x l = x ∷ l
-only false x l = l
-
--- the steps of the runs that `keep` tells
-unfoldable pub project : (ℕ → Bool) → List ℕ → List ℕ
-project keep [] = []
-project keep (x ∷ l) = only (keep x) x (project keep l)
-
 module _ (keep : ℕ → Bool) where
   pub count-kept : (r : ℕ) → keep r ≡ true → (l : List ℕ) → count (project keep l) r ≡ count l r
   unfolding project
@@ -194,7 +188,7 @@ module _ (keep : ℕ → Bool) where
   count-left-out r k (x ∷ l) = go (keep x) refl (count-left-out r k l)
     where
       go : (b : Bool) → keep x ≡ b → count (project keep l) r ≡ 0 → count (only b x (project keep l)) r ≡ 0
-      go true e z = rw (eqb-of-ne x r (λ q. let z : true ≡ false = sym e ∙ ap keep q ∙ k in tells z)) z
+      go true e z = rw (ne-eqb x r (λ q. let z : true ≡ false = sym e ∙ ap keep q ∙ k in tells z)) z
       go false e z = z
 
   pub project-within : (l : List ℕ) → Within (project keep l) l
@@ -222,7 +216,7 @@ module _ (keep : ℕ → Bool) where
           go false e ih r i s j p q h = rw (other r i p, other s j q) (suc-le-suc (ih r i s j p q h))
             where
               other : (r i : ℕ) → i < count (project keep l) r → eqb x r ≡ false
-              other r i p = eqb-of-ne x r (λ f. not-suc-le-zero (rw (count-left-out r (ap keep (sym f) ∙ e) l) at p))
+              other r i p = ne-eqb x r (λ f. not-suc-le-zero (rw (count-left-out r (ap keep (sym f) ∙ e) l) at p))
 
 -- leaving runs out of a relatively serializable history leaves a relatively serializable one
 pub project-serializable : (conflict : ℕ → ℕ → ℕ → ℕ → Bool) (unit : ℕ → ℕ → ℕ → ℕ) (keep : ℕ → Bool) (h : List ℕ) → RelativelySerializable conflict unit h → RelativelySerializable conflict unit (project keep h)

@@ -38,3 +38,12 @@ Order h l = (r : ℕ) → count l r ≡ count h r
 -- 01: serial, if each run's done steps stand together (003, serial history)
 abbrev pub Serial : List ℕ → Type 0
 Serial h = (a b c : ℕ) → a < b → b < c → c < length h → run h a ≡ run h c → run h b ≡ run h a
+
+abbrev pub only : Bool → ℕ → List ℕ → List ℕ
+only true x l = x ∷ l
+only false x l = l
+
+-- the steps of the runs that `keep` tells, in their order (003, projection Π_T)
+unfoldable pub project : (ℕ → Bool) → List ℕ → List ℕ
+project keep [] = []
+project keep (x ∷ l) = only (keep x) x (project keep l)

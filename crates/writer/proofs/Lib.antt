@@ -1,10 +1,4 @@
--- FormatLaws: the format as a relation between states. RenderLaws, Sizes, Histories, RoundTrip: rendered bytes, how many they are, which
--- histories a book may have, and both round trips. TableLaws, PutLaws, WriteLaws: what the writer's functions rest on.
-pub mod FormatLaws
-pub mod RenderLaws
-pub mod Sizes
-pub mod Histories
-pub mod RoundTrip
-pub mod TableLaws
-pub mod PutLaws
+-- GroupLaws: the pieces that each group's loop puts, one command each. WriteLaws: a valid book's groups, put one behind another, are its rendering, and
+-- by book's RoundTrip the rendering of what was read is the book that was read; so `write` meets `Wrote`.
+pub mod GroupLaws
 pub mod WriteLaws

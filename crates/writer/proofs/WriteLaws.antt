@@ -1,56 +1,55 @@
 -- What the writer promises, for each way out; and that the tables it lends stand for what was read.
 use mathlib.Core.Path.{_≡_, refl, sym, ap, _∙_}
-use mathlib.Core.List.{List, [], _∷_, _++_}
-use Prim.Native.Nat.{ℕ, zero, suc, _-_, _≤_, _<_}
+use mathlib.Core.List.{List, [], _∷_, _++_, map, append-assoc, map-append}
+use Prim.Native.Nat.{ℕ, _≤_, _<_}
 use native.Mathlib.Omega.{arith}
 use borrow.Author.Tests.{le-leb, lt-leb}
 use mir.Syntax.{w8}
 use mir.Val.{Fits}
-use lib.ListN.{length, getD, take, drop, length-append}
-use lib.Seq.{take-take, take-nil}
+use lib.ListN.{length, getD, take, drop, length-append, length-drop, take-append-drop}
+use lib.Seq.{take-append-le, drop-append-le}
+use Rattle.buffer.specs.Put.{Put}
+use Rattle.buffer.proofs.EachLaws.{each-append}
 use Rattle.theory.specs.Deck.{Step}
-use Rattle.book.specs.Format.{Contents, sum, refused, accepted, read}
-use Rattle.book.specs.Book.{steps-at, runs-of-lengths, contents-of, Valid, ReadAs}
+use Rattle.theory.specs.Lists.{sum}
+use Rattle.book.specs.Format.{Contents, pair, cut, done, command-bytes, refused, accepted, read}
+use Rattle.book.specs.Render.{run-commands, render}
+use Rattle.book.specs.Book.{step-coded, runs-of-lengths, contents-of, Valid, ReadAs}
 use Rattle.book.specs.declared.Cause.{Cause}
 use Rattle.book.specs.declared.Cause.the-variants.{WriterBufferShort}
 use Rattle.book.specs.declared.Book.{Book}
 use Rattle.book.specs.declared.Reading.{Reading}
 use Rattle.book.specs.declared.Answer.the-variants.{Refused as Stopped, Accepted}
+use Rattle.book.proofs.Books.{codes-long, done-within}
 use Rattle.writer.specs.declared.Written.the-variants.{Length, Refused}
-use Rattle.writer.specs.Render.{pair-bytes, run-bytes, cut-bytes, done-bytes, command-bytes, render}
 use Rattle.writer.specs.Written.{Wrote}
-use Rattle.writer.specs.Tables.{pairs-of, runs-of, cuts-of, table-contents}
-use Rattle.writer.specs.Put.{Put}
-use Rattle.writer.specs.Parts.{BookHeld}
-use Rattle.book.proofs.Books.{done-few}
-use Rattle.writer.proofs.RoundTrip.{render-read}
+use Rattle.writer.specs.inner.Groups.{bytes-of, pair-commands, cut-commands, runs-divided, table-contents, BookHeld}
+use Rattle.book.proofs.RoundTrip.{render-read}
+
+-- ---- the groups are the book
+
+pub groups : (d : Contents) → (((bytes-of (map pair (d .pairs)) ++ bytes-of (run-commands 0 (d .runs))) ++ bytes-of (map cut (d .cuts))) ++ bytes-of (map done (d .history))) ++ 0x45 ∷ [] ≡ render d
+groups d = simp (each-append command-bytes, append-assoc)
 
 -- ---- the tables
 
-drop-take : (n m : ℕ) (xs : List Step) → n ≤ m → drop n (take m xs) ≡ take (m - n) (drop n xs)
-drop-take zero m xs h = let e : m - 0 ≡ m = omega arith in rw e
-drop-take (suc n) zero xs h = absurd (omega arith)
-drop-take (suc n) (suc m) [] h = sym (take-nil (suc m - suc n))
-drop-take (suc n) (suc m) (x ∷ xs) h = let e : suc m - suc n ≡ m - n = omega arith in rw e (drop-take n m xs (omega arith))
-
-zip-take : (n : ℕ) (ks ps : List ℕ) → steps-at (take n ks) (take n ps) ≡ take n (steps-at ks ps)
-zip-take zero ks ps = refl
-zip-take (suc n) [] ps = refl
-zip-take (suc n) (k ∷ ks) [] = refl
-zip-take (suc n) (k ∷ ks) (p ∷ ps) = rw (zip-take n ks ps)
-
--- runs of m steps in all are divided off the first m steps
-split-take : (ns : List ℕ) (m : ℕ) (xs : List Step) → sum ns ≤ m → runs-of-lengths ns (take m xs) ≡ runs-of-lengths ns xs
-split-take [] m xs h = refl
-split-take (n ∷ ns) m xs h = rw (take-take n m xs (omega arith), drop-take n m xs (omega arith), split-take ns (m - n) (drop n xs) (omega arith))
+-- runs are divided off the front of the steps
+runs-front : (ns : List ℕ) (xs ys : List Step) → sum ns ≤ length xs → runs-of-lengths ns (xs ++ ys) ≡ runs-of-lengths ns xs
+runs-front [] xs ys h = refl
+runs-front (n ∷ ns) xs ys h =
+    rw (take-append-le n xs ys (omega arith), drop-append-le n xs ys (omega arith), runs-front ns (drop n xs) ys (simp length-drop (omega arith)))
 
 abbrev lent : Book → Contents
-lent b = table-contents (b .pairs) (b .runs) (b .lens) (b .kinds) (b .positions) (b .cuts) (b .history) (b .done)
+lent b = table-contents (b .pairs) (b .declared) (b .lengths) (b .steps) (b .cuts) (b .done) (b .history)
 
 lent-contents : (b : Book) → Valid b → contents-of b ≡ lent b
 unfolding contents-of
 lent-contents b v =
-    rw (zip-take (b .steps) (b .kinds) (b .positions), split-take (take (b .runs) (b .lens)) (b .steps) (steps-at (b .kinds) (b .positions)) (omega (arith, v .steps-sum)))
+    let ls = take (b .declared) (b .lengths) in
+    let front = map step-coded (take (b .total) (b .steps)) in
+    let rest = map step-coded (drop (b .total) (b .steps)) in
+    let all : map step-coded (b .steps) ≡ front ++ rest = ap (map step-coded) (sym (take-append-drop (b .total) (b .steps))) ∙ map-append step-coded (take (b .total) (b .steps)) (drop (b .total) (b .steps)) in
+    rw (all, runs-front ls front rest (omega (arith, v .runs .total, codes-long (b .lengths) (b .steps) (b .declared) (b .total) (v .runs))))
 
 -- ---- the ways out
 
@@ -71,30 +70,31 @@ module _ (s out : List ℕ) (r : Reading) (h : ReadAs (read s) r) where
       rendered : render (lent (r .book)) ≡ s
       rendered = render-read s (lent (r .book)) (λ i. omega (arith, fits i)) accepts
 
-      pub book-held : BookHeld (r .book .pairs) (r .book .runs) (r .book .lens) (r .book .kinds) (r .book .positions) (r .book .cuts) (r .book .history) (r .book .done) (length out)
+      pub book-held : BookHeld (r .book .pairs) (r .book .declared) (r .book .lengths) (r .book .steps) (r .book .cuts) (r .book .done) (r .book .history) (length out)
       book-held =
           let b = r .book in
           let v = h .valid in
-          let pairs = pair-bytes (pairs-of (b .pairs)) in
-          let runs = run-bytes 0 (runs-of (b .runs) (b .lens) (b .kinds) (b .positions)) in
-          let cuts = cut-bytes (cuts-of (b .cuts)) in
-          let history = done-bytes (take (b .done) (b .history)) in
+          let pairs = bytes-of (pair-commands (b .pairs)) in
+          let runs = bytes-of (run-commands 0 (runs-divided (b .declared) (b .lengths) (b .steps))) in
+          let cuts = bytes-of (cut-commands (b .cuts)) in
+          let history = bytes-of (map done (take (b .done) (b .history))) in
           record {
-            pairs-long = v .pairs .long;
-            runs-held = record {
-              lens-long = v .lens .long;
-              few-runs = v .few-runs;
-              steps = record { kinds-long = v .kinds .long; positions-long = v .positions .long; within = omega (arith, v .steps-sum, v .few-steps) };
+            pairs = omega (arith, v .pairs .long);
+            runs = record {
+              few = v .runs .few-runs;
+              lengths = omega (arith, v .runs .lengths .long, v .runs .few-runs);
+              codes = record { small = v .runs .steps .small };
+              steps = omega (arith, v .runs .total, v .runs .few-steps, v .runs .steps .long);
             };
-            cuts-long = v .cuts .long;
-            history-held = record { long = v .history .long; within = omega (arith, done-few b v, v .few-steps) };
+            cuts = omega (arith, v .cuts .long);
+            history = omega (arith, done-within b v, v .history .history .long);
             room = omega (
               arith,
-              ap length rendered,
-              length-append (command-bytes (lent b)) (0x45 ∷ []),
-              length-append pairs (runs ++ (cuts ++ history)),
-              length-append runs (cuts ++ history),
-              length-append cuts history,
+              ap length (groups (lent b) ∙ rendered),
+              length-append (((pairs ++ runs) ++ cuts) ++ history) (0x45 ∷ []),
+              length-append ((pairs ++ runs) ++ cuts) history,
+              length-append (pairs ++ runs) cuts,
+              length-append pairs runs,
             );
           }
 

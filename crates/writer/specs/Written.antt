@@ -6,9 +6,15 @@ use mathlib.Core.List.{List, _++_}
 use lib.ListN.{length, drop}
 use lib.Dec.{leb}
 use Rattle.book.specs.Format.{Outcome, refused, accepted, pick, read}
+use Rattle.book.specs.Numbers.{Numbers, refused-with, value-of}
 use Rattle.book.specs.declared.Cause.the-variants.{WriterBufferShort}
 use Rattle.writer.specs.declared.Written.{Written}
 use Rattle.writer.specs.declared.Written.the-variants.{Length, Refused}
+
+-- each case in numbers: the length of what was written
+abbrev pub written-numbers : Written → Numbers
+written-numbers (Length n) = value-of n
+written-numbers (Refused cause place) = refused-with cause place
 
 -- the answer for the bytes s, with the outcome of reading them, and a buffer of n bytes: 1 to 11 come first, then 13
 abbrev pub written-by : Outcome → List ℕ → ℕ → Written

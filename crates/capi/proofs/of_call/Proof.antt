@@ -1,5 +1,5 @@
 -- One way out for each case of the reply.
-use Rattle.capi.proofs.Laws.{call-place, call-withdrawn, call-refused}
+use Rattle.capi.proofs.Laws.{reply-is}
 use borrow.Author.Needs.{needs}
 use Rattle.capi.proofs.of_call.Statement.{statement}
 use Rattle.capi.proofs.of_call.Tie as tie
@@ -23,13 +23,13 @@ refused-with-requires : tie.Need-refused-with-requires
 refused-with-requires c κs = search needs
 
 returns : tie.Need-returns
-returns c = search call-place
+returns c = search reply-is
 
 returns-2 : tie.Need-returns-2
-returns-2 c = search call-withdrawn
+returns-2 c = search reply-is
 
 returns-3 : tie.Need-returns-3
-returns-3 c = search call-refused
+returns-3 c = search reply-is
 
 pub of-call-spec : {M : Type 1} → statement M
 of-call-spec =

@@ -1,5 +1,5 @@
 -- One way out for each case of the answer.
-use Rattle.capi.proofs.Laws.{played-refused, played-bad, played-short, played-done}
+use Rattle.capi.proofs.Laws.{played-is}
 use borrow.Author.Needs.{needs}
 use Rattle.capi.proofs.of_played.Statement.{statement}
 use Rattle.capi.proofs.of_played.Tie as tie
@@ -13,26 +13,14 @@ refused-with-requires c κs = search needs
 enum-known-played-2 : tie.Need-enum-known-played-2
 enum-known-played-2 c = search needs
 
-enum-told : tie.Need-enum-told
-enum-told c = search needs
-
-enum-known-played-3 : tie.Need-enum-known-played-3
-enum-known-played-3 c = search needs
-
 value-of-requires : tie.Need-value-of-requires
 value-of-requires c κs = search needs
 
 returns : tie.Need-returns
-returns c = search played-refused
+returns c = search played-is
 
 returns-2 : tie.Need-returns-2
-returns-2 c = search played-bad
-
-returns-3 : tie.Need-returns-3
-returns-3 c = search played-short
-
-returns-4 : tie.Need-returns-4
-returns-4 c = search played-done
+returns-2 c = search played-is
 
 pub of-played-spec : {M : Type 1} → statement M
 of-played-spec =
@@ -41,10 +29,6 @@ of-played-spec =
     enum-known-played
     refused-with-requires
     enum-known-played-2
-    enum-told
-    enum-known-played-3
     value-of-requires
     returns
-    returns-2
-    returns-3
-    returns-4)
+    returns-2)

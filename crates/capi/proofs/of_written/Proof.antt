@@ -1,5 +1,5 @@
 -- One way out for each case of the answer.
-use Rattle.capi.proofs.Laws.{written-refused, written-length}
+use Rattle.capi.proofs.Laws.{written-is}
 use borrow.Author.Needs.{needs}
 use Rattle.capi.proofs.of_written.Statement.{statement}
 use Rattle.capi.proofs.of_written.Tie as tie
@@ -17,10 +17,10 @@ value-of-requires : tie.Need-value-of-requires
 value-of-requires c κs = search needs
 
 returns : tie.Need-returns
-returns c = search written-refused
+returns c = search written-is
 
 returns-2 : tie.Need-returns-2
-returns-2 c = search written-length
+returns-2 c = search written-is
 
 pub of-written-spec : {M : Type 1} → statement M
 of-written-spec =

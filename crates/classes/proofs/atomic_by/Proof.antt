@@ -5,8 +5,8 @@ use native.Mathlib.Omega.{arith}
 use borrow.Author.Tests.{not-true, not-false}
 use borrow.Author.Needs.{needs}
 use Rattle.graph.proofs.Answered.{refute}
-use Rattle.classes.specs.Inner.{NonePair, InterleavedIn}
-use Rattle.classes.proofs.Searched.{no-pair-yet, no-pair-more}
+use Rattle.classes.specs.inner.Tables.{InterleavedIn}
+use Rattle.classes.proofs.Searched.{NonePair, no-pair-yet, no-pair-more}
 use Rattle.classes.proofs.ClassLaws.{atomic-yes, atomic-no}
 use Rattle.classes.proofs.atomic_by.Statement.{statement}
 use Rattle.classes.proofs.atomic_by.Tie as tie
@@ -24,7 +24,7 @@ none-interleaved-requires : tie.Need-none-interleaved-requires Inv-loop μ-loop
 none-interleaved-requires c κs = search needs
 
 returns : tie.Need-returns Inv-loop μ-loop
-returns c = atomic-no _ _ (c .before .before .before .before .pre) _ _ (omega arith) (refute (c .before .none-interleaved .ensures) (not-true _ (c .if1 .taken)))
+returns c = atomic-no _ _ (c .before .before .before .before .pre .0) _ _ (omega arith) (refute (c .before .none-interleaved .ensures) (not-true _ (c .if1 .taken)))
 
 add-c : tie.Need-add-c Inv-loop μ-loop
 add-c c = search needs
@@ -36,7 +36,7 @@ loop-again : tie.Need-loop-again Inv-loop μ-loop
 loop-again c = no-pair-more _ _ (c .before .before .before .loop .inv) (c .before .none-interleaved .ensures .sound (not-false _ (c .if1 .left)))
 
 returns-2 : tie.Need-returns-2 Inv-loop μ-loop
-returns-2 c = atomic-yes _ _ (c .before .before .pre) _ (record { none = λ a b k i. c .before .loop .inv .none a b k (omega arith) })
+returns-2 c = atomic-yes _ _ (c .before .before .pre .0) _ (record { none = λ a b k i. c .before .loop .inv .none a b k (omega arith) })
 
 pub atomic-by-spec : {M : Type 1} → statement M
 atomic-by-spec =

@@ -1,6 +1,7 @@
 -- The table of first places is that of the book's units.
 use borrow.Author.Needs.{needs}
-use Rattle.classes.proofs.BookLaws.{book-history, book-atomic}
+use Rattle.graph.proofs.BookTables.{book-history}
+use Rattle.classes.proofs.BookLaws.{book-firsts, book-atomic}
 use Rattle.classes.proofs.is_relatively_atomic.Statement.{statement}
 use Rattle.classes.proofs.is_relatively_atomic.Tie as tie
 
@@ -8,12 +9,10 @@ units-requires : tie.Need-units-requires
 units-requires c κs = search needs
 
 atomic-by-requires : tie.Need-atomic-by-requires
-atomic-by-requires c κs = book-history _ (c .before .before .before .before .before .before .pre)
+atomic-by-requires c κs = (search book-history, search book-firsts)
 
 returns : tie.Need-returns
-returns c =
-    let u = c .before .before .before .before in
-    book-atomic _ (u .before .before .before .pre) _ _ _ _ _ (u .units .ensures) (c .atomic-by .ensures)
+returns c = search book-atomic
 
 pub is-relatively-atomic-spec : {M : Type 1} → statement M
 is-relatively-atomic-spec = tie.close (tie.spec units-requires atomic-by-requires returns)

@@ -3,16 +3,17 @@ use Prim.Native.Nat.{_-_}
 use native.Mathlib.Omega.{arith}
 use borrow.Author.Needs.{needs}
 use Rattle.graph.proofs.Answered.{answer-yes, answer-no, refute}
-use Rattle.classes.specs.Inner.{NoneBelow, ViolatesIn}
-use Rattle.classes.proofs.Searched.{none-yet, none-more}
+use Rattle.judge.specs.inner.Turns.{NoneBelow}
+use Rattle.classes.specs.inner.Tables.{ViolatesIn}
+use Rattle.judge.proofs.ReadyPlaces.{none-yet, none-more}
 use Rattle.classes.proofs.none_violates.Statement.{statement}
 use Rattle.classes.proofs.none_violates.Tie as tie
 
 abbrev Inv-loop : tie.InvT-loop
-Inv-loop history firsts lasts dep c b₀ b = NoneBelow (λ k. ViolatesIn history firsts lasts dep k c) b
+Inv-loop history n firsts lasts dep c b₀ b = NoneBelow (λ k. ViolatesIn history firsts lasts dep k c) b
 
 abbrev μ-loop : tie.MeasureT-loop
-μ-loop history firsts lasts dep c b₀ b = c - b
+μ-loop history n firsts lasts dep c b₀ b = c - b
 
 loop-holds : tie.Need-loop-holds Inv-loop μ-loop
 loop-holds c = none-yet _

@@ -1,6 +1,6 @@
 -- As in `serial`, with the test for relatively atomic.
 use borrow.Author.Needs.{needs}
-use Rattle.classes.proofs.BookLaws.{replied}
+use Rattle.classes.proofs.BookLaws.{tested}
 use Rattle.classes.proofs.relatively_atomic.Statement.{statement}
 use Rattle.classes.proofs.relatively_atomic.Tie as tie
 
@@ -10,12 +10,12 @@ read-requires c κs = search needs
 is-relatively-atomic-requires : tie.Need-is-relatively-atomic-requires
 is-relatively-atomic-requires c κs = search needs
 
-reply-to-requires : tie.Need-reply-to-requires
-reply-to-requires c κs = search needs
+tested-by-requires : tie.Need-tested-by-requires
+tested-by-requires c κs = search needs
 
 returns : tie.Need-returns
-returns c = search replied
+returns c = search tested
 
 pub relatively-atomic-spec : {M : Type 1} → statement M
 relatively-atomic-spec =
-    tie.close (tie.spec read-requires is-relatively-atomic-requires reply-to-requires returns)
+    tie.close (tie.spec read-requires is-relatively-atomic-requires tested-by-requires returns)

@@ -4,8 +4,8 @@ use native.Mathlib.Omega.{arith}
 use borrow.Author.Tests.{not-true, not-false}
 use borrow.Author.Needs.{needs}
 use Rattle.graph.proofs.Answered.{refute}
-use Rattle.classes.specs.Inner.{NonePair, ViolatesIn}
-use Rattle.classes.proofs.Searched.{no-pair-yet, no-pair-more}
+use Rattle.classes.specs.inner.Tables.{ViolatesIn}
+use Rattle.classes.proofs.Searched.{NonePair, no-pair-yet, no-pair-more}
 use Rattle.classes.proofs.ClassLaws.{relserial-yes, relserial-no}
 use Rattle.classes.proofs.relatively_serial_by.Statement.{statement}
 use Rattle.classes.proofs.relatively_serial_by.Tie as tie
@@ -20,7 +20,7 @@ loop-holds : tie.Need-loop-holds Inv-loop μ-loop
 loop-holds c = no-pair-yet _
 
 none-violates-requires : tie.Need-none-violates-requires Inv-loop μ-loop
-none-violates-requires c κs = let z = c .before .before in (omega arith, z .pre .0 .runs, z .pre .1 .row _ (omega arith))
+none-violates-requires c κs = search needs
 
 returns : tie.Need-returns Inv-loop μ-loop
 returns c = relserial-no _ _ (c .before .before .before .before .pre .0) _ _ _ _ (omega arith) (refute (c .before .none-violates .ensures) (not-true _ (c .if1 .taken)))

@@ -1,6 +1,6 @@
 -- As in `order_check`, with the arc test.
 use borrow.Author.Needs.{needs}
-use Rattle.classes.proofs.BookLaws.{replied}
+use Rattle.classes.proofs.BookLaws.{tested}
 use Rattle.evidence.proofs.arc_test.Statement.{statement}
 use Rattle.evidence.proofs.arc_test.Tie as tie
 
@@ -10,12 +10,12 @@ read-requires c κs = search needs
 is-arc-requires : tie.Need-is-arc-requires
 is-arc-requires c κs = search needs
 
-reply-to-requires : tie.Need-reply-to-requires
-reply-to-requires c κs = search needs
+tested-by-requires : tie.Need-tested-by-requires
+tested-by-requires c κs = search needs
 
 returns : tie.Need-returns
-returns c = search replied
+returns c = search tested
 
 pub arc-test-spec : {M : Type 1} → statement M
 arc-test-spec =
-    tie.close (tie.spec read-requires is-arc-requires reply-to-requires returns)
+    tie.close (tie.spec read-requires is-arc-requires tested-by-requires returns)

@@ -1,8 +1,7 @@
--- Where l is an order that agrees, the book with l as its history is valid, and its test for relatively serial is that of l.
-use borrow.Author.Tests.{not-true, not-false}
+-- Where l is an order that agrees, the book may have it as its history, and its test for relatively serial is that of l.
 use borrow.Author.Needs.{needs}
-use Rattle.classes.proofs.BookLaws.{book-history}
-use Rattle.evidence.proofs.BookLaws.{not-equivalent, order-fits, reordered-valid, order-answer}
+use Rattle.graph.proofs.BookTables.{book-history}
+use Rattle.evidence.proofs.BookLaws.{not-equivalent, order-allowed, order-answer}
 use Rattle.evidence.proofs.is_relatively_serial_order.Statement.{statement}
 use Rattle.evidence.proofs.is_relatively_serial_order.Tie as tie
 
@@ -10,35 +9,19 @@ dependences-requires : tie.Need-dependences-requires
 dependences-requires c κs = search needs
 
 equivalent-by-requires : tie.Need-equivalent-by-requires
-equivalent-by-requires c κs = book-history _ (c .before .before .before .before .before .before .pre)
+equivalent-by-requires c κs = search book-history
 
 returns : tie.Need-returns
-returns c =
-    let e = c .before in
-    let d = e .before .before .before .before in
-    let v = d .before .before .before .pre in
-    not-equivalent _ v _ (d .dependences .ensures) _ _ (e .equivalent-by .ensures) (not-true _ (c .if1 .taken))
+returns c = search not-equivalent
 
-with-order-requires : tie.Need-with-order-requires
-with-order-requires c κs =
-    let e = c .before in
-    let d = e .before .before .before .before in
-    let v = d .before .before .before .pre in
-    (order-fits _ v _ _ _ (d .dependences .ensures) (e .equivalent-by .ensures) (not-false _ (c .if1 .left)), v .history .long)
+with-history-requires : tie.Need-with-history-requires
+with-history-requires c κs = (search needs, search order-allowed)
 
 is-relatively-serial-requires : tie.Need-is-relatively-serial-requires
-is-relatively-serial-requires c κs =
-    let e = c .before .before in
-    let d = e .before .before .before .before in
-    let v = d .before .before .before .pre in
-    reordered-valid _ v _ (d .dependences .ensures) _ _ (e .equivalent-by .ensures) (not-false _ (c .before .if1 .left)) _ (c .with-order .ensures)
+is-relatively-serial-requires c κs = search needs
 
 returns-2 : tie.Need-returns-2
-returns-2 c =
-    let e = c .before .before .before in
-    let d = e .before .before .before .before in
-    let v = d .before .before .before .pre in
-    order-answer _ v _ (d .dependences .ensures) _ _ (e .equivalent-by .ensures) (not-false _ (c .before .before .if1 .left)) _ (c .before .with-order .ensures) _ (c .is-relatively-serial .ensures)
+returns-2 c = search order-answer
 
 pub is-relatively-serial-order-spec : {M : Type 1} → statement M
 is-relatively-serial-order-spec =
@@ -47,6 +30,6 @@ is-relatively-serial-order-spec =
     dependences-requires
     equivalent-by-requires
     returns
-    with-order-requires
+    with-history-requires
     is-relatively-serial-requires
     returns-2)

@@ -2,7 +2,7 @@
 use Prim.Native.Nat.{_-_}
 use mathlib.Core.Logic.{⊎-elim}
 use borrow.Author.Needs.{needs}
-use Rattle.evidence.specs.Inner.{NoNext}
+use Rattle.evidence.specs.inner.Tables.{NoNext}
 use Rattle.evidence.proofs.NextLaws.{none-left, none-left-all, none-left-other, none-left-taken, next-found}
 use Rattle.evidence.proofs.next_step.Statement.{statement}
 use Rattle.evidence.proofs.next_step.Tie as tie

@@ -1,5 +1,5 @@
 -- `eligibility_of` is right: its tests are 20, 21 and 22 read off the tables, in that order.
-use Rattle.gate.specs.Inner.{not-declared, was-withdrawn, all-kept}
+use Rattle.gate.specs.inner.Calls.{not-declared, was-withdrawn, all-kept}
 use borrow.Author.Needs.{needs}
 use Rattle.gate.proofs.eligibility_of.Statement.{statement}
 use Rattle.gate.proofs.eligibility_of.Tie as tie

@@ -1,17 +1,17 @@
 -- Each turn gains the arcs that come of one more run; of all runs they are all.
 use Prim.Native.Nat.{_≤_, _-_}
 use lib.ListN.{take}
-use Rattle.graph.specs.Arcs.{ArcByRuns, GainedBy}
+use Rattle.graph.specs.inner.Arcs.{ArcOfRuns, GainedBy}
 use Rattle.graph.proofs.ArcMarks.{mask-input, runs-none, runs-more, runs-all}
 use borrow.Author.Needs.{needs}
 use Rattle.graph.proofs.arc_rows.Statement.{statement}
 use Rattle.graph.proofs.arc_rows.Tie as tie
 
 abbrev Inv-loop : tie.InvT-loop
-Inv-loop hist n runs dep firsts lasts arc₀ masks r₀ arc r = (r ≤ runs) × GainedBy ArcByRuns (take n hist) dep firsts lasts n r arc₀ arc
+Inv-loop history n declared dep firsts lasts arc₀ masks r₀ arc r = (r ≤ declared) × GainedBy ArcOfRuns (take n history) dep firsts lasts n r arc₀ arc
 
 abbrev μ-loop : tie.MeasureT-loop
-μ-loop hist n runs dep firsts lasts arc₀ masks r₀ arc r = runs - r
+μ-loop history n declared dep firsts lasts arc₀ masks r₀ arc r = declared - r
 
 run-masks-requires : tie.Need-run-masks-requires Inv-loop μ-loop
 run-masks-requires c κs = search needs

@@ -1,17 +1,17 @@
 -- Each turn gains the arcs that come of one more place.
 use Prim.Native.Nat.{_≤_, _-_}
 use lib.ListN.{take}
-use Rattle.graph.specs.Arcs.{ArcByPlaces, GainedBy}
+use Rattle.graph.specs.inner.Arcs.{ArcOfPlaces, GainedBy}
 use Rattle.graph.proofs.ArcMarks.{places-none, places-more, places-all}
 use borrow.Author.Needs.{needs}
 use Rattle.graph.proofs.arcs_from.Statement.{statement}
 use Rattle.graph.proofs.arcs_from.Tie as tie
 
 abbrev Inv-loop : tie.InvT-loop
-Inv-loop hist n dep firsts lasts mask r arc₀ q₀ arc q = (q ≤ n) × GainedBy ArcByPlaces (take n hist) dep firsts lasts r q arc₀ arc
+Inv-loop history n dep firsts lasts mask r arc₀ q₀ arc q = (q ≤ n) × GainedBy ArcOfPlaces (take n history) dep firsts lasts r q arc₀ arc
 
 abbrev μ-loop : tie.MeasureT-loop
-μ-loop hist n dep firsts lasts mask r arc₀ q₀ arc q = n - q
+μ-loop history n dep firsts lasts mask r arc₀ q₀ arc q = n - q
 
 loop-holds : tie.Need-loop-holds Inv-loop μ-loop
 loop-holds c = (search needs, search places-none)

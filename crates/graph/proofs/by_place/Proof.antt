@@ -7,10 +7,10 @@ use Rattle.graph.proofs.by_place.Statement.{statement}
 use Rattle.graph.proofs.by_place.Tie as tie
 
 abbrev Inv-loop : tie.InvT-loop
-Inv-loop hist n kinds positions next₀ kinds-at₀ positions-at₀ p₀ next kinds-at positions-at p = PlacesBelow (take n hist) next₀ kinds positions next kinds-at positions-at n p
+Inv-loop history n steps next₀ steps-at₀ p₀ next steps-at p = PlacesBelow (take n history) next₀ steps next steps-at n p
 
 abbrev μ-loop : tie.MeasureT-loop
-μ-loop hist n kinds positions next₀ kinds-at₀ positions-at₀ p₀ next kinds-at positions-at p = n - p
+μ-loop history n steps next₀ steps-at₀ p₀ next steps-at p = n - p
 
 loop-holds : tie.Need-loop-holds Inv-loop μ-loop
 loop-holds c = search placed-none
@@ -18,11 +18,8 @@ loop-holds c = search placed-none
 sized-by-run-requires : tie.Need-sized-by-run-requires Inv-loop μ-loop
 sized-by-run-requires c κs = search needs
 
-sized-by-place-requires : tie.Need-sized-by-place-requires Inv-loop μ-loop
-sized-by-place-requires c κs = search needs
-
-sized-positions-requires : tie.Need-sized-positions-requires Inv-loop μ-loop
-sized-positions-requires c κs = search needs
+sized-steps-requires : tie.Need-sized-steps-requires Inv-loop μ-loop
+sized-steps-requires c κs = search needs
 
 run-of-requires : tie.Need-run-of-requires Inv-loop μ-loop
 run-of-requires c κs = search needs
@@ -33,23 +30,17 @@ element-copy-out-i c = search needs
 wide-requires : tie.Need-wide-requires Inv-loop μ-loop
 wide-requires c κs = search needs
 
-element-copy-out-kinds-at : tie.Need-element-copy-out-kinds-at Inv-loop μ-loop
-element-copy-out-kinds-at c = search place-index
+mul-steps-at : tie.Need-mul-steps-at Inv-loop μ-loop
+mul-steps-at c = search needs
 
-element-write-kinds-at : tie.Need-element-write-kinds-at Inv-loop μ-loop
-element-write-kinds-at c = search needs
+element-copy-out-steps-at : tie.Need-element-copy-out-steps-at Inv-loop μ-loop
+element-copy-out-steps-at c = search place-index
 
-mul-positions-at : tie.Need-mul-positions-at Inv-loop μ-loop
-mul-positions-at c = search needs
+mul-steps-at-2 : tie.Need-mul-steps-at-2 Inv-loop μ-loop
+mul-steps-at-2 c = search needs
 
-element-copy-out-positions-at : tie.Need-element-copy-out-positions-at Inv-loop μ-loop
-element-copy-out-positions-at c = search place-index
-
-mul-positions-at-2 : tie.Need-mul-positions-at-2 Inv-loop μ-loop
-mul-positions-at-2 c = search needs
-
-element-write-positions-at : tie.Need-element-write-positions-at Inv-loop μ-loop
-element-write-positions-at c = search needs
+element-write-steps-at : tie.Need-element-write-steps-at Inv-loop μ-loop
+element-write-steps-at c = search needs
 
 add-next : tie.Need-add-next Inv-loop μ-loop
 add-next c = search place-fits
@@ -77,17 +68,14 @@ by-place-spec =
     μ-loop
     loop-holds
     sized-by-run-requires
-    sized-by-place-requires
-    sized-positions-requires
+    sized-steps-requires
     run-of-requires
     element-copy-out-i
     wide-requires
-    element-copy-out-kinds-at
-    element-write-kinds-at
-    mul-positions-at
-    element-copy-out-positions-at
-    mul-positions-at-2
-    element-write-positions-at
+    mul-steps-at
+    element-copy-out-steps-at
+    mul-steps-at-2
+    element-write-steps-at
     add-next
     element-write-next
     add-p

@@ -2,7 +2,7 @@
 use Prim.Native.Nat.{_-_}
 use mathlib.Core.Logic.{⊎-elim}
 use Rattle.book.specs.Format.{run-limit}
-use Rattle.graph.specs.Tables.{RowSet, copied-row}
+use Rattle.graph.specs.inner.Tables.{RowSet, copied-row}
 use Rattle.graph.proofs.UnitRows.{row-none, copy-row-same, copy-row-own, row-end}
 use borrow.Author.Needs.{needs}
 use Rattle.graph.proofs.copy_row.Statement.{statement}

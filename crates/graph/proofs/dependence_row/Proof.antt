@@ -1,16 +1,16 @@
 -- Before each turn the row has, of the places from p on, those that q directly depends on, and with each place what that depends on.
 use Prim.Native.Nat.{_≤_}
-use Rattle.graph.specs.Tables.{Link}
+use Rattle.graph.specs.inner.Tables.{Link}
 use Rattle.graph.proofs.DependenceRows.{RowTaken, taken-none, taken-skip, taken-more, taken-all}
 use borrow.Author.Needs.{needs}
 use Rattle.graph.proofs.dependence_row.Statement.{statement}
 use Rattle.graph.proofs.dependence_row.Tie as tie
 
 abbrev Inv-loop : tie.InvT-loop
-Inv-loop hist kinds positions pairs q dep₀ p₀ dep p = (p ≤ q) × RowTaken (Link hist kinds positions pairs) dep₀ dep q p
+Inv-loop history steps pairs q dep₀ p₀ dep p = (p ≤ q) × RowTaken (Link history steps pairs) dep₀ dep q p
 
 abbrev μ-loop : tie.MeasureT-loop
-μ-loop hist kinds positions pairs q dep₀ p₀ dep p = p
+μ-loop history steps pairs q dep₀ p₀ dep p = p
 
 loop-holds : tie.Need-loop-holds Inv-loop μ-loop
 loop-holds c = (search needs, search taken-none)

@@ -1,6 +1,6 @@
 -- Each turn reads one more step.
 use Prim.Native.Nat.{_≤_, _-_}
-use Rattle.graph.specs.Tables.{Link}
+use Rattle.graph.specs.inner.Tables.{Link}
 use Rattle.graph.specs.Dependence.{StepsRead}
 use Rattle.graph.proofs.DependenceRows.{steps-none, steps-more, steps-all}
 use borrow.Author.Needs.{needs}
@@ -8,10 +8,10 @@ use Rattle.graph.proofs.dependence_rows.Statement.{statement}
 use Rattle.graph.proofs.dependence_rows.Tie as tie
 
 abbrev Inv-loop : tie.InvT-loop
-Inv-loop hist kinds positions pairs n dep₀ q₀ dep q = (q ≤ n) × StepsRead (Link hist kinds positions pairs) dep q
+Inv-loop history steps pairs n dep₀ q₀ dep q = (q ≤ n) × StepsRead (Link history steps pairs) dep q
 
 abbrev μ-loop : tie.MeasureT-loop
-μ-loop hist kinds positions pairs n dep₀ q₀ dep q = n - q
+μ-loop history steps pairs n dep₀ q₀ dep q = n - q
 
 loop-holds : tie.Need-loop-holds Inv-loop μ-loop
 loop-holds c = (search needs, search steps-none)

@@ -1,5 +1,5 @@
--- The tests are those of a link, in turn.
-use Rattle.graph.proofs.Steps.{link-run, link-position, link-pair, link-back}
+-- Places of one run are linked; others where their steps conflict.
+use Rattle.graph.proofs.Steps.{link-run, link-conflict}
 use borrow.Author.Needs.{needs}
 use Rattle.graph.proofs.linked.Statement.{statement}
 use Rattle.graph.proofs.linked.Tie as tie
@@ -13,50 +13,17 @@ element-copy-out-if1-2 c = search needs
 returns : tie.Need-returns
 returns c = search link-run
 
-mul-if2 : tie.Need-mul-if2
-mul-if2 c = search needs
+step-at-requires : tie.Need-step-at-requires
+step-at-requires c κs = search needs
 
-element-copy-out-if2 : tie.Need-element-copy-out-if2
-element-copy-out-if2 c = search needs
+step-at-requires-2 : tie.Need-step-at-requires-2
+step-at-requires-2 c κs = search needs
 
-mul-if2-2 : tie.Need-mul-if2-2
-mul-if2-2 c = search needs
-
-element-copy-out-if2-2 : tie.Need-element-copy-out-if2-2
-element-copy-out-if2-2 c = search needs
+conflicts-requires : tie.Need-conflicts-requires
+conflicts-requires c κs = search needs
 
 returns-2 : tie.Need-returns-2
-returns-2 c = search link-position
-
-kind-of-requires : tie.Need-kind-of-requires
-kind-of-requires c κs = search needs
-
-kind-of-requires-2 : tie.Need-kind-of-requires-2
-kind-of-requires-2 c κs = search needs
-
-mul-if3 : tie.Need-mul-if3
-mul-if3 c = search needs
-
-add-if3 : tie.Need-add-if3
-add-if3 c = search needs
-
-element-copy-out-if3 : tie.Need-element-copy-out-if3
-element-copy-out-if3 c = search needs
-
-returns-3 : tie.Need-returns-3
-returns-3 c = search link-pair
-
-mul-result : tie.Need-mul-result
-mul-result c = search needs
-
-add-result : tie.Need-add-result
-add-result c = search needs
-
-element-copy-out-result : tie.Need-element-copy-out-result
-element-copy-out-result c = search needs
-
-returns-4 : tie.Need-returns-4
-returns-4 c = search link-back
+returns-2 c = search link-conflict
 
 pub linked-spec : {M : Type 1} → statement M
 linked-spec =
@@ -65,18 +32,7 @@ linked-spec =
     element-copy-out-if1
     element-copy-out-if1-2
     returns
-    mul-if2
-    element-copy-out-if2
-    mul-if2-2
-    element-copy-out-if2-2
-    returns-2
-    kind-of-requires
-    kind-of-requires-2
-    mul-if3
-    add-if3
-    element-copy-out-if3
-    returns-3
-    mul-result
-    add-result
-    element-copy-out-result
-    returns-4)
+    step-at-requires
+    step-at-requires-2
+    conflicts-requires
+    returns-2)

@@ -9,10 +9,10 @@ use Rattle.graph.proofs.number_places.Statement.{statement}
 use Rattle.graph.proofs.number_places.Tie as tie
 
 abbrev Inv-loop : tie.InvT-loop
-Inv-loop hist n ordinals₀ places₀ counts₀ p₀ ordinals places counts p = (length counts ≡ run-limit) × NumberedBelow (take n hist) ordinals places counts n p
+Inv-loop history n ordinals₀ places₀ counts₀ p₀ ordinals places counts p = (length counts ≡ run-limit) × NumberedBelow (take n history) ordinals places counts n p
 
 abbrev μ-loop : tie.MeasureT-loop
-μ-loop hist n ordinals₀ places₀ counts₀ p₀ ordinals places counts p = n - p
+μ-loop history n ordinals₀ places₀ counts₀ p₀ ordinals places counts p = n - p
 
 loop-holds : tie.Need-loop-holds Inv-loop μ-loop
 loop-holds c = (search needs, search numbered-none)

@@ -2,17 +2,17 @@
 use Prim.Native.Nat.{_≤_, _-_}
 use lib.ListN.{take}
 use Rattle.graph.specs.Marks.{Marks}
-use Rattle.graph.specs.Arcs.{InRun}
+use Rattle.graph.specs.inner.Arcs.{InRun}
 use Rattle.graph.proofs.ArcMarks.{masks-none, masks-more, masks-all}
 use borrow.Author.Needs.{needs}
 use Rattle.graph.proofs.run_masks.Statement.{statement}
 use Rattle.graph.proofs.run_masks.Tie as tie
 
 abbrev Inv-loop : tie.InvT-loop
-Inv-loop hist n masks₀ p₀ masks p = (p ≤ n) × Marks (InRun (take n hist) p) masks
+Inv-loop history n masks₀ p₀ masks p = (p ≤ n) × Marks (InRun (take n history) p) masks
 
 abbrev μ-loop : tie.MeasureT-loop
-μ-loop hist n masks₀ p₀ masks p = n - p
+μ-loop history n masks₀ p₀ masks p = n - p
 
 loop-holds : tie.Need-loop-holds Inv-loop μ-loop
 loop-holds c = (search needs, search masks-none)

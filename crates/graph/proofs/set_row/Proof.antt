@@ -1,7 +1,7 @@
 -- Each turn sets one more of the row.
 use Prim.Native.Nat.{_-_}
 use Rattle.book.specs.Format.{run-limit}
-use Rattle.graph.specs.Tables.{RowSet}
+use Rattle.graph.specs.inner.Tables.{RowSet}
 use Rattle.graph.proofs.UnitRows.{row-none, set-row-more, row-end}
 use borrow.Author.Needs.{needs}
 use Rattle.graph.proofs.set_row.Statement.{statement}

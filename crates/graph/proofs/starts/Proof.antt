@@ -7,10 +7,10 @@ use Rattle.graph.proofs.starts.Statement.{statement}
 use Rattle.graph.proofs.starts.Tie as tie
 
 abbrev Inv-loop : tie.InvT-loop
-Inv-loop lens t₀ s₀ r₀ t s r = StartsBelow lens t s r
+Inv-loop lengths t₀ s₀ r₀ t s r = StartsBelow lengths t s r
 
 abbrev μ-loop : tie.MeasureT-loop
-μ-loop lens t₀ s₀ r₀ t s r = run-limit - r
+μ-loop lengths t₀ s₀ r₀ t s r = run-limit - r
 
 loop-holds : tie.Need-loop-holds Inv-loop μ-loop
 loop-holds c = search starts-none

@@ -3,18 +3,18 @@ use Prim.Native.Nat.{_≤_, _-_}
 use mathlib.Core.Logic.{⊎-elim}
 use lib.ListN.{take}
 use Rattle.theory.specs.Graph.{FirstOf}
-use Rattle.graph.specs.Tables.{EachBy}
-use Rattle.graph.specs.Units.{Kept}
+use Rattle.graph.specs.inner.Tables.{EachBy}
+use Rattle.graph.specs.Units.{UnchangedFrom}
 use Rattle.graph.proofs.UnitRows.{firsts-none, firsts-all, firsts-own, firsts-copy-row, first-index, first-rows, kept-none, kept-row}
 use borrow.Author.Needs.{needs}
 use Rattle.graph.proofs.unit_firsts.Statement.{statement}
 use Rattle.graph.proofs.unit_firsts.Tie as tie
 
 abbrev Inv-loop : tie.InvT-loop
-Inv-loop hist n ordinals places cuts t₀ p₀ t p = (p ≤ n) × EachBy FirstOf cuts (take n hist) 0 p t × Kept n t₀ t
+Inv-loop history n ordinals places cuts t₀ p₀ t p = (p ≤ n) × EachBy FirstOf cuts (take n history) 0 p t × UnchangedFrom n t₀ t
 
 abbrev μ-loop : tie.MeasureT-loop
-μ-loop hist n ordinals places cuts t₀ p₀ t p = n - p
+μ-loop history n ordinals places cuts t₀ p₀ t p = n - p
 
 loop-holds : tie.Need-loop-holds Inv-loop μ-loop
 loop-holds c = (search needs, search firsts-none, search kept-none)

@@ -3,18 +3,18 @@ use Prim.Native.Nat.{_≤_}
 use native.Mathlib.Omega.{arith}
 use lib.ListN.{take}
 use Rattle.theory.specs.Graph.{LastOf}
-use Rattle.graph.specs.Tables.{EachBy}
-use Rattle.graph.specs.Units.{Kept}
+use Rattle.graph.specs.inner.Tables.{EachBy}
+use Rattle.graph.specs.Units.{UnchangedFrom}
 use Rattle.graph.proofs.UnitRows.{lasts-none, lasts-all, lasts-own, lasts-copy-row, last-index, last-rows, kept-none, kept-down}
 use borrow.Author.Needs.{needs}
 use Rattle.graph.proofs.unit_lasts.Statement.{statement}
 use Rattle.graph.proofs.unit_lasts.Tie as tie
 
 abbrev Inv-loop : tie.InvT-loop
-Inv-loop hist n ordinals places counts cuts t₀ p₀ t p = (p ≤ n) × EachBy LastOf cuts (take n hist) p n t × Kept n t₀ t
+Inv-loop history n ordinals places counts cuts t₀ p₀ t p = (p ≤ n) × EachBy LastOf cuts (take n history) p n t × UnchangedFrom n t₀ t
 
 abbrev μ-loop : tie.MeasureT-loop
-μ-loop hist n ordinals places counts cuts t₀ p₀ t p = p
+μ-loop history n ordinals places counts cuts t₀ p₀ t p = p
 
 loop-holds : tie.Need-loop-holds Inv-loop μ-loop
 loop-holds c = (search needs, search lasts-none, search kept-none)

@@ -1,5 +1,5 @@
 -- The flags of the cuts make the units of the book's contents.
-use Rattle.graph.proofs.BookTables.{book-history, book-dones, book-units}
+use Rattle.graph.proofs.BookTables.{book-history, book-counted, book-units}
 use borrow.Author.Needs.{needs}
 use Rattle.graph.proofs.units.Statement.{statement}
 use Rattle.graph.proofs.units.Tie as tie
@@ -11,7 +11,7 @@ unit-firsts-requires : tie.Need-unit-firsts-requires
 unit-firsts-requires c κs = (search book-history, search needs)
 
 unit-lasts-requires : tie.Need-unit-lasts-requires
-unit-lasts-requires c κs = (search book-history, search needs, search book-dones)
+unit-lasts-requires c κs = (search book-history, search needs, search book-counted)
 
 returns : tie.Need-returns
 returns c = search book-units

@@ -5,7 +5,7 @@ use mathlib.Core.Path.{_≡_}
 use lib.ListN.{length}
 use Rattle.book.specs.Format.{step-limit}
 use Rattle.judge.proofs.ReadyPlaces.{all-none}
-use Rattle.judge.proofs.WalkBack.{Walked, walked-none, walked-more, closed, never-none, never-long, v-limit, v-byte, x-limit, x-offset, s-limit, part-limit, trail-long}
+use Rattle.judge.proofs.WalkBack.{Walked, walked-none, walked-more, closed, never-none, never-long, v-limit, v-byte, number-byte, x-limit, s-limit, part-start, part-end}
 use borrow.Author.Needs.{needs}
 use Rattle.judge.proofs.find_cycle.Statement.{statement}
 use Rattle.judge.proofs.find_cycle.Tie as tie
@@ -35,10 +35,7 @@ array-write-trail : tie.Need-array-write-trail Inv-loop μ-loop
 array-write-trail c = search needs
 
 cast-seen : tie.Need-cast-seen Inv-loop μ-loop
-cast-seen c = search needs
-
-mul-seen : tie.Need-mul-seen Inv-loop μ-loop
-mul-seen c = search needs
+cast-seen c = search (needs, number-byte)
 
 array-write-seen : tie.Need-array-write-seen Inv-loop μ-loop
 array-write-seen c = search (needs, v-limit)
@@ -49,38 +46,41 @@ first-outside-requires c κs = search (needs, v-limit)
 enum-known-x : tie.Need-enum-known-x Inv-loop μ-loop
 enum-known-x c = search needs
 
-mul-wide : tie.Need-mul-wide Inv-loop μ-loop
-mul-wide c = search (needs, x-offset)
-
 array-read-wide : tie.Need-array-read-wide Inv-loop μ-loop
 array-read-wide c = search (needs, x-limit)
 
 wide-requires : tie.Need-wide-requires Inv-loop μ-loop
 wide-requires c κs = search needs
 
-add-count : tie.Need-add-count Inv-loop μ-loop
-add-count c = search needs
+slice-aggregate-walk : tie.Need-slice-aggregate-walk Inv-loop μ-loop
+slice-aggregate-walk c = search needs
 
-sub-count : tie.Need-sub-count Inv-loop μ-loop
-sub-count c = search (needs, s-limit)
+sub-at : tie.Need-sub-at Inv-loop μ-loop
+sub-at c = search needs
 
-sub-copy-part : tie.Need-sub-copy-part Inv-loop μ-loop
-sub-copy-part c = search needs
+add-end : tie.Need-add-end Inv-loop μ-loop
+add-end c = search needs
 
-copy-part-requires : tie.Need-copy-part-requires Inv-loop μ-loop
-copy-part-requires c κs = (search (needs, trail-long), search (needs, part-limit), search needs)
+sub-end : tie.Need-sub-end Inv-loop μ-loop
+sub-end c = search (needs, s-limit)
+
+sub-put-bytes : tie.Need-sub-put-bytes Inv-loop μ-loop
+sub-put-bytes c = search (needs, part-start)
+
+part-put-bytes-start : tie.Need-part-put-bytes-start Inv-loop μ-loop
+part-put-bytes-start c = search (needs, part-start)
+
+part-put-bytes-end : tie.Need-part-put-bytes-end Inv-loop μ-loop
+part-put-bytes-end c = search (needs, part-end)
+
+put-bytes-requires : tie.Need-put-bytes-requires Inv-loop μ-loop
+put-bytes-requires c κs = search needs
 
 same-length : tie.Need-same-length Inv-loop μ-loop
 same-length c = search needs
 
 returns : tie.Need-returns Inv-loop μ-loop
-returns c =
-    let p = c .before .before in
-    let i = p .before .before .before in
-    let s = i .before in
-    let o = s .before .before .before .before in
-    let l = o .before .before in
-    closed _ _ _ (l .before .before .before .pre .0) _ _ _ _ (l .loop .inv .2) _ _ (o .first-outside .ensures) (s .before .before .x .given .1) _ (s .wide .ensures) (i .if1 .taken) _ _ _ (l .loop .inv .0) (p .copy-part .ensures)
+returns c = search (closed)
 
 loop-less : tie.Need-loop-less Inv-loop μ-loop
 loop-less c = search needs
@@ -116,17 +116,19 @@ find-cycle-spec =
     sub-trail
     array-write-trail
     cast-seen
-    mul-seen
     array-write-seen
     first-outside-requires
     enum-known-x
-    mul-wide
     array-read-wide
     wide-requires
-    add-count
-    sub-count
-    sub-copy-part
-    copy-part-requires
+    slice-aggregate-walk
+    sub-at
+    add-end
+    sub-end
+    sub-put-bytes
+    part-put-bytes-start
+    part-put-bytes-end
+    put-bytes-requires
     same-length
     returns
     loop-less

@@ -1,5 +1,5 @@
 -- Where the turns take all n places they are the whole greedy order; else no place is ready, and the walk back finds a cycle.
-use Rattle.judge.proofs.Verdicts.{judge-passed, judge-stuck, judge-tangled}
+use Rattle.judge.proofs.Verdicts.{turns-long, turns-enough, turns-fit, judge-passed, judge-stuck, judge-tangled}
 use borrow.Author.Needs.{needs}
 use Rattle.judge.proofs.judge_arcs.Statement.{statement}
 use Rattle.judge.proofs.judge_arcs.Tie as tie
@@ -7,8 +7,14 @@ use Rattle.judge.proofs.judge_arcs.Tie as tie
 greedy-requires : tie.Need-greedy-requires
 greedy-requires c κs = search needs
 
-copy-part-requires : tie.Need-copy-part-requires
-copy-part-requires c κs = search needs
+array-share-prefix-turns : tie.Need-array-share-prefix-turns
+array-share-prefix-turns c = search (needs, turns-enough)
+
+slice-aggregate-put-bytes : tie.Need-slice-aggregate-put-bytes
+slice-aggregate-put-bytes c = search (needs, turns-long)
+
+put-bytes-requires : tie.Need-put-bytes-requires
+put-bytes-requires c κs = search (needs, turns-fit)
 
 same-length : tie.Need-same-length
 same-length c = search needs
@@ -30,7 +36,9 @@ judge-arcs-spec =
     tie.close
     (tie.spec
     greedy-requires
-    copy-part-requires
+    array-share-prefix-turns
+    slice-aggregate-put-bytes
+    put-bytes-requires
     same-length
     returns
     find-cycle-requires

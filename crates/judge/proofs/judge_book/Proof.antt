@@ -1,5 +1,6 @@
 -- The table marks the arcs of the book's own conflict and unit, and `judge_arcs` judges by these.
-use Rattle.judge.proofs.BookHistory.{book-history, book-graph, book-judged}
+use Rattle.graph.proofs.BookTables.{book-history}
+use Rattle.judge.proofs.BookHistory.{book-graph, book-judged}
 use borrow.Author.Needs.{needs}
 use Rattle.judge.proofs.judge_book.Statement.{statement}
 use Rattle.judge.proofs.judge_book.Tie as tie

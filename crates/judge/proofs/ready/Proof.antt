@@ -1,7 +1,7 @@
 -- No place below p is ready: those below `from` are taken, and the others were tried.
 use Prim.Native.Nat.{_≤_, _-_}
-use Rattle.judge.specs.Inner.{NoneReady}
-use Rattle.judge.proofs.ReadyPlaces.{taken-none, none-more, first-at, first-none}
+use Rattle.judge.specs.inner.Turns.{NoneReady}
+use Rattle.judge.proofs.ReadyPlaces.{taken-none, ready-more, first-at, first-none}
 use borrow.Author.Needs.{needs}
 use Rattle.judge.proofs.ready.Statement.{statement}
 use Rattle.judge.proofs.ready.Tie as tie
@@ -28,7 +28,7 @@ loop-less : tie.Need-loop-less Inv-loop μ-loop
 loop-less c = search needs
 
 loop-again : tie.Need-loop-again Inv-loop μ-loop
-loop-again c = (search needs, search none-more)
+loop-again c = (search needs, search ready-more)
 
 returns-2 : tie.Need-returns-2 Inv-loop μ-loop
 returns-2 c = search first-none

@@ -1,6 +1,6 @@
 -- Every place below p is taken.
 use Prim.Native.Nat.{_≤_, _-_}
-use Rattle.judge.specs.Inner.{AllTaken}
+use Rattle.judge.specs.inner.Turns.{AllTaken}
 use Rattle.judge.proofs.ReadyPlaces.{all-more, untaken-at, untaken-none}
 use borrow.Author.Needs.{needs}
 use Rattle.judge.proofs.untaken.Statement.{statement}

@@ -1,8 +1,7 @@
 -- The lines of done steps, classes and verdict, each behind the one before.
 use borrow.Author.Needs.{needs}
+use Rattle.buffer.proofs.PutLaws.{behind, put-is}
 use Rattle.report.proofs.TextLaws.{findings-text}
-use native.Mathlib.Omega.{arith}
-use Rattle.report.proofs.WithinLaws.{behind-within, within-is}
 use Rattle.report.proofs.put_findings.Statement.{statement}
 use Rattle.report.proofs.put_findings.Tie as tie
 
@@ -44,8 +43,11 @@ same-length c = search needs
 
 returns : tie.Need-returns
 returns c =
-    let a = c .before .before .before .before .before .before .before .before .before .before .before .before .before .before .args in
-    within-is (behind-within (behind-within (c .before .before .before .before .before .before .before .before .before .before .put-done .ensures) (c .before .before .before .before .before .before .put-classes .ensures)) (c .before .before .put-verdict .ensures)) (findings-text (a .done) (a .classes) (a .passed) (a .list .now)) (omega arith)
+    let verdict = c .before .before in
+    let classes = verdict .before .before .before .before in
+    let done = classes .before .before .before .before in
+    let a = done .before .before .before .before .args in
+    put-is (behind (behind (done .put-done .ensures .put) (classes .put-classes .ensures .put)) (verdict .put-verdict .ensures .put)) (findings-text (a .done) (a .classes) (a .passed) (a .list .now))
 
 pub put-findings-spec : {M : Type 1} → statement M
 put-findings-spec =

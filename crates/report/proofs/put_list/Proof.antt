@@ -43,7 +43,10 @@ same-length : tie.Need-same-length
 same-length c = search needs
 
 returns : tie.Need-returns
-returns c = within-is (behind-within (behind-within (exactly (c .before .before .before .before .before .before .before .before .before .before .put-bytes .ensures)) (c .before .before .before .before .before .before .put-numbers .ensures)) (exactly (c .before .before .put-byte .ensures))) refl (le-refl _)
+returns c =
+    let list = c .before .before .before .before .before .before in
+    let head = list .before .before .before .before in
+    within-is (behind-within (behind-within (exactly (head .put-bytes .ensures)) (list .put-numbers .ensures)) (exactly (c .before .before .put-byte .ensures))) refl (le-refl _)
 
 pub put-list-spec : {M : Type 1} → statement M
 put-list-spec =

@@ -1,52 +1,56 @@
--- The blank, then the digits behind it.
+-- The head, then the digits behind it.
 use borrow.Author.Needs.{needs}
-use Prim.Native.Nat.{ℕ}
-use mathlib.Core.Path.{ap}
-use mathlib.Core.List.{_∷_}
 use native.Mathlib.Omega.{arith}
-use Rattle.report.specs.Letters.{blank}
+use Rattle.buffer.proofs.PutLaws.{room-behind}
 use Rattle.report.specs.Text.{decimal}
-use Rattle.report.proofs.WithinLaws.{exactly, behind-within, within-is}
+use Rattle.report.specs.inner.Widths.{number-digits}
+use Rattle.report.proofs.Decimals.{decimal-few}
+use Rattle.report.proofs.WithinLaws.{exactly, within-limit, behind-within}
 use Rattle.report.proofs.put_number.Statement.{statement}
 use Rattle.report.proofs.put_number.Tie as tie
 
-put-byte-requires : tie.Need-put-byte-requires
-put-byte-requires c κs = search needs
+put-bytes-requires : tie.Need-put-bytes-requires
+put-bytes-requires c κs = search needs
 
-wide-requires : tie.Need-wide-requires
-wide-requires c κs = search needs
+sub-put-decimal : tie.Need-sub-put-decimal
+sub-put-decimal c = search needs
 
-sub-put-small : tie.Need-sub-put-small
-sub-put-small c = search needs
+part-put-decimal-start : tie.Need-part-put-decimal-start
+part-put-decimal-start c = search needs
 
-part-put-small-start : tie.Need-part-put-small-start
-part-put-small-start c = search needs
+part-put-decimal-end : tie.Need-part-put-decimal-end
+part-put-decimal-end c = search needs
 
-part-put-small-end : tie.Need-part-put-small-end
-part-put-small-end c = search needs
-
-put-small-requires : tie.Need-put-small-requires
-put-small-requires c κs = search needs
+put-decimal-requires : tie.Need-put-decimal-requires
+put-decimal-requires c κs =
+    let head = c .before .before .before in
+    let start = head .before .before .before .before in
+    room-behind (decimal (start .args .x)) (head .put-bytes .ensures) (omega (arith, decimal-few (start .args .x) (start .pre .0), start .pre .1))
 
 add-result : tie.Need-add-result
-add-result c = search needs
+add-result c =
+    let head = c .before .before .before .before .before .before in
+    let start = head .before .before .before .before in
+    omega (arith, decimal-few (start .args .x) (start .pre .0), start .pre .1, head .put-bytes .ensures .count, c .before .before .put-decimal .ensures .count)
 
 same-length : tie.Need-same-length
 same-length c = search needs
 
 returns : tie.Need-returns
-returns c = within-is (behind-within (exactly (c .before .before .before .before .before .before .before .put-byte .ensures)) (c .before .before .put-small .ensures)) (ap (λ (k : ℕ). blank ∷ decimal k) (c .before .before .before .before .wide .ensures .0)) (omega arith)
+returns c =
+    let head = c .before .before .before .before .before .before in
+    let start = head .before .before .before .before in
+    behind-within (exactly (head .put-bytes .ensures)) (within-limit number-digits (c .before .before .put-decimal .ensures) (decimal-few (start .args .x) (start .pre .0)))
 
 pub put-number-spec : {M : Type 1} → statement M
 put-number-spec =
     tie.close
     (tie.spec
-    put-byte-requires
-    wide-requires
-    sub-put-small
-    part-put-small-start
-    part-put-small-end
-    put-small-requires
+    put-bytes-requires
+    sub-put-decimal
+    part-put-decimal-start
+    part-put-decimal-end
+    put-decimal-requires
     add-result
     same-length
     returns)

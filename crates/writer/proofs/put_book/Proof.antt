@@ -1,8 +1,9 @@
 -- Each group is put behind those before it; together they are the bytes of the book.
-use mathlib.Core.List.{append-assoc}
 use native.Mathlib.Omega.{arith}
 use borrow.Author.Needs.{needs}
-use Rattle.writer.proofs.PutLaws.{behind, put-is}
+use Rattle.buffer.proofs.PutLaws.{behind, put-is}
+use Rattle.writer.specs.inner.Groups.{table-contents}
+use Rattle.writer.proofs.WriteLaws.{groups}
 use Rattle.writer.proofs.put_book.Statement.{statement}
 use Rattle.writer.proofs.put_book.Tie as tie
 
@@ -54,45 +55,45 @@ put-history-requires c κs = search needs
 add-history-end : tie.Need-add-history-end
 add-history-end c = search needs
 
-sub-put-end : tie.Need-sub-put-end
-sub-put-end c = search needs
+sub-put-byte : tie.Need-sub-put-byte
+sub-put-byte c = search needs
 
-part-put-end-start : tie.Need-part-put-end-start
-part-put-end-start c = search needs
+part-put-byte-start : tie.Need-part-put-byte-start
+part-put-byte-start c = search needs
 
-part-put-end-end : tie.Need-part-put-end-end
-part-put-end-end c = search needs
+part-put-byte-end : tie.Need-part-put-byte-end
+part-put-byte-end c = search needs
 
-put-end-requires : tie.Need-put-end-requires
-put-end-requires c κs = search needs
+put-byte-requires : tie.Need-put-byte-requires
+put-byte-requires c κs = search needs
 
-add-result : tie.Need-add-result
-add-result c =
-    let history = c .before .before .before .before .before .before in
-    let cuts = history .before .before .before .before in
-    let runs = cuts .before .before .before .before in
-    let pairs = runs .before .before .before .before in
-    omega (
-      arith,
-      c .before .before .put-end .ensures .count,
-      history .put-history .ensures .count,
-      cuts .put-cuts .ensures .count,
-      runs .put-runs .ensures .count,
-      pairs .put-pairs .ensures .count,
-      pairs .before .before .before .good,
-      pairs .before .before .before .pre .room,
-    )
+-- where each group was put, from the last back to the first
+abbrev history-put : tie.After-slice-known6 → tie.After-put-history
+history-put c = c .before .before .before .before .before .before
 
-same-length : tie.Need-same-length
-same-length c = search needs
+abbrev cuts-put : tie.After-slice-known6 → tie.After-put-cuts
+cuts-put c = history-put c .before .before .before .before
+
+abbrev runs-put : tie.After-slice-known6 → tie.After-put-runs
+runs-put c = cuts-put c .before .before .before .before
+
+abbrev pairs-put : tie.After-slice-known6 → tie.After-put-pairs
+pairs-put c = runs-put c .before .before .before .before
+
+abbrev start : tie.After-slice-known6 → tie.Start
+start c = pairs-put c .before .before .before .before .before .before .before .before
 
 returns : tie.Need-returns
 returns c =
-    let history = c .before .before .before .before .before .before in
-    let cuts = history .before .before .before .before in
-    let runs = cuts .before .before .before .before in
-    let pairs = runs .before .before .before .before in
-    put-is (behind (behind (behind (behind (pairs .put-pairs .ensures) (runs .put-runs .ensures)) (cuts .put-cuts .ensures)) (history .put-history .ensures)) (c .before .before .put-end .ensures)) (simp append-assoc)
+    let a = start c .args in
+    put-is (behind (behind (behind (behind (pairs-put c .put-pairs .ensures) (runs-put c .put-runs .ensures)) (cuts-put c .put-cuts .ensures)) (history-put c .put-history .ensures)) (c .before .before .put-byte .ensures))
+    (groups (table-contents (a .pairs .now) (a .declared) (a .lengths .now) (a .steps .now) (a .cuts .now) (a .done) (a .history .now)))
+
+add-result : tie.Need-add-result
+add-result c = omega (arith, returns c .count, start c .good, start c .pre .room)
+
+same-length : tie.Need-same-length
+same-length c = search needs
 
 pub put-book-spec : {M : Type 1} → statement M
 put-book-spec =
@@ -114,10 +115,10 @@ put-book-spec =
     part-put-history-end
     put-history-requires
     add-history-end
-    sub-put-end
-    part-put-end-start
-    part-put-end-end
-    put-end-requires
+    sub-put-byte
+    part-put-byte-start
+    part-put-byte-end
+    put-byte-requires
     add-result
     same-length
     returns)

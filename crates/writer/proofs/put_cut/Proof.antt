@@ -1,39 +1,42 @@
--- Nothing where the mark is 0, else the four bytes of the command.
+-- Nothing where the flag is 0, else the bytes of the command.
 use borrow.Author.Needs.{needs}
-use Rattle.writer.specs.Parts.{cut-command}
-use Rattle.writer.proofs.PutLaws.{unmarked, marked-room, marked}
+use Rattle.writer.proofs.GroupLaws.{flag-clear, flag-room, flag-put}
 use Rattle.writer.proofs.put_cut.Statement.{statement}
 use Rattle.writer.proofs.put_cut.Tie as tie
 
-cast-put-four : tie.Need-cast-put-four
-cast-put-four c = search needs
-
-cast-put-four-2 : tie.Need-cast-put-four-2
-cast-put-four-2 c = search needs
-
-cast-put-four-3 : tie.Need-cast-put-four-3
-cast-put-four-3 c = search needs
-
-put-four-requires : tie.Need-put-four-requires
-put-four-requires c κs = marked-room cut-command _ _ (c .before .if1 .left) _ (c .before .before .before .pre .1)
-
 returns : tie.Need-returns
-returns c = unmarked cut-command _ _ _ (c .if1 .taken)
+returns c = flag-clear _ _ _ (c .if1 .taken)
+
+cast-t7 : tie.Need-cast-t7
+cast-t7 c = search needs
+
+cast-t10 : tie.Need-cast-t10
+cast-t10 c = search needs
+
+cast-t12 : tie.Need-cast-t12
+cast-t12 c = search needs
+
+slice-aggregate-put-bytes : tie.Need-slice-aggregate-put-bytes
+slice-aggregate-put-bytes c = search needs
+
+put-bytes-requires : tie.Need-put-bytes-requires
+put-bytes-requires c κs = flag-room _ _ _ (c .before .before .if1 .left) (c .before .before .before .before .pre .1)
 
 same-length : tie.Need-same-length
 same-length c = search needs
 
 returns-2 : tie.Need-returns-2
-returns-2 c = marked cut-command _ _ (c .before .before .before .before .if1 .left) _ _ _ (c .before .before .put-four .ensures)
+returns-2 c = flag-put _ _ _ _ _ (c .before .before .before .before .before .if1 .left) (c .before .before .put-bytes .ensures)
 
 pub put-cut-spec : {M : Type 1} → statement M
 put-cut-spec =
     tie.close
     (tie.spec
-    cast-put-four
-    cast-put-four-2
-    cast-put-four-3
-    put-four-requires
     returns
+    cast-t7
+    cast-t10
+    cast-t12
+    slice-aggregate-put-bytes
+    put-bytes-requires
     same-length
     returns-2)

@@ -1,28 +1,26 @@
--- The loop puts the part of each index of the table in turn; the parts of all are the bytes of the group.
+-- The loop puts the bytes of each index of the table in turn.
 use Prim.Native.Nat.{_-_}
+use native.Mathlib.Nat.{le-refl}
 use native.Mathlib.Omega.{arith}
-use Rattle.book.specs.Book.{cuts-size}
 use borrow.Author.Needs.{needs}
-use lib.ListN.{getD}
-use Rattle.writer.specs.Render.{cut-bytes}
-use Rattle.writer.specs.Tables.{cuts-of}
-use Rattle.writer.specs.Parts.{cut-part}
-use Rattle.writer.proofs.PutLaws.{Putting, putting-none, putting-room, putting-left, putting-next, putting-all}
-use Rattle.writer.proofs.TableLaws.{cut-parts}
+use lib.ListN.{length}
+use Rattle.buffer.proofs.InTurn.{putting-exact, putting-left, putting-next, putting-all}
+use Rattle.writer.specs.inner.Groups.{bytes-of, cut-commands}
+use Rattle.writer.proofs.GroupLaws.{PuttingAll, cut-piece, cut-pieces}
 use Rattle.writer.proofs.put_cuts.Statement.{statement}
 use Rattle.writer.proofs.put_cuts.Tie as tie
 
 abbrev Inv-loop : tie.InvT-loop
-Inv-loop cuts out₀ at₀ i₀ out at i = Putting (cut-bytes (cuts-of cuts)) (λ k. cut-part (getD cuts k 0) k) cuts-size out₀ out at i
+Inv-loop cuts out₀ at₀ i₀ out at i = PuttingAll (bytes-of (cut-commands cuts)) (cut-piece cuts) (length cuts) out₀ out at i
 
 abbrev μ-loop : tie.MeasureT-loop
-μ-loop cuts out₀ at₀ i₀ out at i = cuts-size - i
+μ-loop cuts out₀ at₀ i₀ out at i = length cuts - i
 
 loop-holds : tie.Need-loop-holds Inv-loop μ-loop
-loop-holds c = putting-none (cut-parts (c .before .args .cuts .now) cuts-size (c .before .pre .0)) (c .before .pre .1)
+loop-holds c = putting-exact (cut-pieces (c .before .before .args .cuts .now)) (c .before .before .pre .1)
 
-element-copy-out-put-cut : tie.Need-element-copy-out-put-cut Inv-loop μ-loop
-element-copy-out-put-cut c = search needs
+shared-slice-read-put-cut : tie.Need-shared-slice-read-put-cut Inv-loop μ-loop
+shared-slice-read-put-cut c = search needs
 
 sub-put-cut : tie.Need-sub-put-cut Inv-loop μ-loop
 sub-put-cut c = search needs
@@ -36,21 +34,17 @@ part-put-cut-end c = search needs
 put-cut-requires : tie.Need-put-cut-requires Inv-loop μ-loop
 put-cut-requires c κs = (search needs, putting-left (c .before .before .before .loop .inv) (c .before .before .loop-test .taken))
 
+loop-again : tie.Need-loop-again Inv-loop μ-loop
+loop-again c = search (putting-next, le-refl)
+
 add-at : tie.Need-add-at Inv-loop μ-loop
-add-at c =
-    let t = c .before .before .before .before .before in
-    omega (arith, putting-room (t .before .loop .inv) (t .loop-test .taken), c .before .before .put-cut .ensures .count)
+add-at c = omega (arith, loop-again c .within)
 
 add-i : tie.Need-add-i Inv-loop μ-loop
 add-i c = search needs
 
 loop-less : tie.Need-loop-less Inv-loop μ-loop
 loop-less c = search needs
-
-loop-again : tie.Need-loop-again Inv-loop μ-loop
-loop-again c =
-    let t = c .before .before .before .before .before in
-    putting-next (t .before .loop .inv) (t .loop-test .taken) (c .before .before .put-cut .ensures)
 
 same-length : tie.Need-same-length Inv-loop μ-loop
 same-length c = search needs
@@ -65,7 +59,7 @@ put-cuts-spec =
     Inv-loop
     μ-loop
     loop-holds
-    element-copy-out-put-cut
+    shared-slice-read-put-cut
     sub-put-cut
     part-put-cut-start
     part-put-cut-end

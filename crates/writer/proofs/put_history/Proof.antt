@@ -1,54 +1,52 @@
 -- The loop puts the command of each place in turn.
 use Prim.Native.Nat.{_-_}
+use native.Mathlib.Nat.{le-refl}
 use native.Mathlib.Omega.{arith}
+use mathlib.Core.List.{map}
 use borrow.Author.Needs.{needs}
-use mathlib.Core.List.{[], _∷_}
-use lib.ListN.{take, getD}
-use Rattle.writer.specs.Render.{done-bytes}
-use Rattle.writer.proofs.PutLaws.{Putting, putting-none, putting-room, putting-left, putting-next, putting-all}
-use Rattle.writer.proofs.TableLaws.{done-parts}
+use lib.ListN.{take}
+use Rattle.buffer.proofs.InTurn.{putting-exact, putting-left, putting-next, putting-all}
+use Rattle.book.specs.Format.{done}
+use Rattle.writer.specs.inner.Groups.{bytes-of}
+use Rattle.writer.proofs.GroupLaws.{PuttingAll, done-piece, done-pieces}
 use Rattle.writer.proofs.put_history.Statement.{statement}
 use Rattle.writer.proofs.put_history.Tie as tie
 
 abbrev Inv-loop : tie.InvT-loop
-Inv-loop history done out₀ at₀ i₀ out at i = Putting (done-bytes (take done history)) (λ k. done-bytes (getD history k 0 ∷ [])) done out₀ out at i
+Inv-loop count history out₀ at₀ i₀ out at i = PuttingAll (bytes-of (map done (take count history))) (done-piece history) count out₀ out at i
 
 abbrev μ-loop : tie.MeasureT-loop
-μ-loop history done out₀ at₀ i₀ out at i = done - i
+μ-loop count history out₀ at₀ i₀ out at i = count - i
 
 loop-holds : tie.Need-loop-holds Inv-loop μ-loop
-loop-holds c = putting-none (done-parts (c .before .args .history .now) (c .before .args .done) (omega (arith, c .before .pre .0 .long, c .before .pre .0 .within))) (c .before .pre .1)
+loop-holds c = putting-exact (done-pieces (c .before .before .args .history .now) (c .before .before .args .count) (c .before .before .pre .0)) (c .before .before .pre .1)
 
-element-copy-out-put-two : tie.Need-element-copy-out-put-two Inv-loop μ-loop
-element-copy-out-put-two c = search needs
+shared-slice-read-put-number : tie.Need-shared-slice-read-put-number Inv-loop μ-loop
+shared-slice-read-put-number c = search needs
 
-sub-put-two : tie.Need-sub-put-two Inv-loop μ-loop
-sub-put-two c = search needs
+sub-put-number : tie.Need-sub-put-number Inv-loop μ-loop
+sub-put-number c = search needs
 
-part-put-two-start : tie.Need-part-put-two-start Inv-loop μ-loop
-part-put-two-start c = search needs
+part-put-number-start : tie.Need-part-put-number-start Inv-loop μ-loop
+part-put-number-start c = search needs
 
-part-put-two-end : tie.Need-part-put-two-end Inv-loop μ-loop
-part-put-two-end c = search needs
+part-put-number-end : tie.Need-part-put-number-end Inv-loop μ-loop
+part-put-number-end c = search needs
 
-put-two-requires : tie.Need-put-two-requires Inv-loop μ-loop
-put-two-requires c κs = putting-left (c .before .before .before .loop .inv) (c .before .before .loop-test .taken)
+put-number-requires : tie.Need-put-number-requires Inv-loop μ-loop
+put-number-requires c κs = putting-left (c .before .before .before .loop .inv) (c .before .before .loop-test .taken)
+
+loop-again : tie.Need-loop-again Inv-loop μ-loop
+loop-again c = search (putting-next, le-refl)
 
 add-at : tie.Need-add-at Inv-loop μ-loop
-add-at c =
-    let t = c .before .before .before .before .before in
-    omega (arith, putting-room (t .before .loop .inv) (t .loop-test .taken), c .before .before .put-two .ensures .count)
+add-at c = omega (arith, loop-again c .within)
 
 add-i : tie.Need-add-i Inv-loop μ-loop
 add-i c = search needs
 
 loop-less : tie.Need-loop-less Inv-loop μ-loop
 loop-less c = search needs
-
-loop-again : tie.Need-loop-again Inv-loop μ-loop
-loop-again c =
-    let t = c .before .before .before .before .before in
-    putting-next (t .before .loop .inv) (t .loop-test .taken) (c .before .before .put-two .ensures)
 
 same-length : tie.Need-same-length Inv-loop μ-loop
 same-length c = search needs
@@ -63,11 +61,11 @@ put-history-spec =
     Inv-loop
     μ-loop
     loop-holds
-    element-copy-out-put-two
-    sub-put-two
-    part-put-two-start
-    part-put-two-end
-    put-two-requires
+    shared-slice-read-put-number
+    sub-put-number
+    part-put-number-start
+    part-put-number-end
+    put-number-requires
     add-at
     add-i
     loop-less

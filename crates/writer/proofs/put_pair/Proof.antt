@@ -1,29 +1,38 @@
--- Nothing where the mark is 0, else the three bytes of the command.
+-- Nothing where the flag is 0, else the bytes of the command.
 use borrow.Author.Needs.{needs}
-use Rattle.writer.specs.Parts.{pair-command}
-use Rattle.writer.proofs.PutLaws.{unmarked, marked-room, marked}
+use Rattle.writer.proofs.GroupLaws.{flag-clear, flag-room, flag-put}
 use Rattle.writer.proofs.put_pair.Statement.{statement}
 use Rattle.writer.proofs.put_pair.Tie as tie
 
-cast-put-three : tie.Need-cast-put-three
-cast-put-three c = search needs
-
-cast-put-three-2 : tie.Need-cast-put-three-2
-cast-put-three-2 c = search needs
-
-put-three-requires : tie.Need-put-three-requires
-put-three-requires c κs = marked-room pair-command _ _ (c .before .if1 .left) _ (c .before .before .before .pre .1)
-
 returns : tie.Need-returns
-returns c = unmarked pair-command _ _ _ (c .if1 .taken)
+returns c = flag-clear _ _ _ (c .if1 .taken)
+
+cast-t7 : tie.Need-cast-t7
+cast-t7 c = search needs
+
+cast-t9 : tie.Need-cast-t9
+cast-t9 c = search needs
+
+slice-aggregate-put-bytes : tie.Need-slice-aggregate-put-bytes
+slice-aggregate-put-bytes c = search needs
+
+put-bytes-requires : tie.Need-put-bytes-requires
+put-bytes-requires c κs = flag-room _ _ _ (c .before .before .if1 .left) (c .before .before .before .before .pre .1)
 
 same-length : tie.Need-same-length
 same-length c = search needs
 
 returns-2 : tie.Need-returns-2
-returns-2 c = marked pair-command _ _ (c .before .before .before .before .if1 .left) _ _ _ (c .before .before .put-three .ensures)
+returns-2 c = flag-put _ _ _ _ _ (c .before .before .before .before .before .if1 .left) (c .before .before .put-bytes .ensures)
 
 pub put-pair-spec : {M : Type 1} → statement M
 put-pair-spec =
     tie.close
-    (tie.spec cast-put-three cast-put-three-2 put-three-requires returns same-length returns-2)
+    (tie.spec
+    returns
+    cast-t7
+    cast-t9
+    slice-aggregate-put-bytes
+    put-bytes-requires
+    same-length
+    returns-2)

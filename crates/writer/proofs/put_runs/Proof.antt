@@ -1,105 +1,99 @@
 -- The loop puts each run in turn; base is the number of steps of the runs before it.
-use Prim.Native.Nat.{ℕ, _+_, _-_, _<_}
+use Prim.Native.Nat.{_-_}
 use mathlib.Core.Path.{_≡_, refl}
-use mathlib.Core.List.{List, [], _∷_}
-use native.Mathlib.Omega.{arith}
+use native.Mathlib.Nat.{le-refl}
 use native.Mathlib.Numerals.{add-one}
+use native.Mathlib.Omega.{arith}
 use borrow.Author.Needs.{needs}
-use lib.ListN.{take, getD}
-use Rattle.book.specs.Format.{sum}
-use Rattle.writer.specs.Render.{run-bytes}
-use Rattle.writer.specs.Tables.{runs-of}
-use Rattle.writer.specs.Parts.{steps-from, StepsHeld, RunsHeld}
-use Rattle.writer.specs.Put.{Put}
-use Rattle.writer.proofs.PutLaws.{Putting, putting-none, putting-room, putting-left, putting-next, putting-all}
-use Rattle.writer.proofs.TableLaws.{run-parts}
-use Rattle.writer.proofs.Sizes.{sum-take-lt, sum-take-suc}
+use lib.ListN.{take}
+use Rattle.theory.proofs.Lists.{sum-take}
+use Rattle.theory.specs.Lists.{sum}
+use Rattle.book.specs.Render.{run-commands}
+use Rattle.buffer.proofs.InTurn.{putting-exact, putting-left, putting-next, putting-all}
+use Rattle.writer.specs.inner.Groups.{bytes-of, runs-divided}
+use Rattle.writer.proofs.GroupLaws.{PuttingAll, run-piece, run-pieces, run-coded, run-within, run-codes-are}
 use Rattle.writer.proofs.put_runs.Statement.{statement}
 use Rattle.writer.proofs.put_runs.Tie as tie
 
-abbrev part : List ℕ → List ℕ → List ℕ → ℕ → List ℕ
-part lens kinds positions r = run-bytes r (steps-from kinds positions (sum (take r lens)) (getD lens r 0) ∷ [])
-
 abbrev Inv-loop : tie.InvT-loop
-Inv-loop runs lens kinds positions out₀ at₀ base₀ r₀ out at base r =
-    Putting (run-bytes 0 (runs-of runs lens kinds positions)) (part lens kinds positions) runs out₀ out at r × (base ≡ sum (take r lens))
+Inv-loop declared lengths steps out₀ at₀ base₀ r₀ out at base r =
+    PuttingAll (bytes-of (run-commands 0 (runs-divided declared lengths steps))) (run-piece lengths steps) declared out₀ out at r × (base ≡ sum (take r lengths))
 
 abbrev μ-loop : tie.MeasureT-loop
-μ-loop runs lens kinds positions out₀ at₀ base₀ r₀ out at base r = runs - r
-
--- the run of this turn is where base says
-this-run : (kinds positions : List ℕ) (r : ℕ) {before after : List ℕ} {n base count base′ count′ : ℕ} → base ≡ base′ → count ≡ count′
-    → Put (run-bytes r (steps-from kinds positions base count ∷ [])) before after n → Put (run-bytes r (steps-from kinds positions base′ count′ ∷ [])) before after n
-this-run kinds positions r e f p = rw (← e, ← f) p
-
--- and its steps are among those that the tables hold
-turn-held : {runs : ℕ} {lens kinds positions : List ℕ} (r base count : ℕ) → RunsHeld runs lens kinds positions → r < runs → base ≡ sum (take r lens) → count ≡ getD lens r 0
-    → StepsHeld kinds positions (base + count)
-turn-held {runs} {lens} r base count h l e f = record {
-  kinds-long = h .steps .kinds-long;
-  positions-long = h .steps .positions-long;
-  within = omega (arith, h .steps .within, sum-take-lt lens r runs l);
-}
+μ-loop declared lengths steps out₀ at₀ base₀ r₀ out at base r = declared - r
 
 loop-holds : tie.Need-loop-holds Inv-loop μ-loop
 loop-holds c =
-    let s = c .before in
-    let held = s .pre .0 in
-    (putting-none (run-parts (s .args .lens .now) (s .args .kinds .now) (s .args .positions .now) (s .args .runs) (omega (arith, held .lens-long, held .few-runs))) (s .pre .1), refl)
+    let s = c .before .before .before in
+    (putting-exact (run-pieces (s .args .lengths .now) (s .args .steps .now) (s .args .declared) (s .pre .0 .lengths)) (s .pre .1), refl)
 
-element-copy-out-wide : tie.Need-element-copy-out-wide Inv-loop μ-loop
-element-copy-out-wide c = search needs
+shared-slice-read-wide : tie.Need-shared-slice-read-wide Inv-loop μ-loop
+shared-slice-read-wide c = search needs
 
 wide-requires : tie.Need-wide-requires Inv-loop μ-loop
 wide-requires c κs = search needs
 
+abbrev start : tie.After-wide Inv-loop μ-loop → tie.Start Inv-loop μ-loop
+start w = w .before .before .before .before .before .before .before
+
+part-put-run-end : tie.Need-part-put-run-end Inv-loop μ-loop
+part-put-run-end c =
+    let t = c .before .before in
+    let l = t .before in
+    omega (arith, run-within (start c .pre .0) (t .loop-test .taken) (l .loop .inv .1) (c .wide .ensures .0))
+
+add-end : tie.Need-add-end Inv-loop μ-loop
+add-end c = omega (arith, part-put-run-end c)
+
 cast-put-run : tie.Need-cast-put-run Inv-loop μ-loop
-cast-put-run c = omega (arith, c .before .before .before .before .before .pre .0 .few-runs)
+cast-put-run c = omega (arith, start c .pre .0 .few)
+
+mul-put-run : tie.Need-mul-put-run Inv-loop μ-loop
+mul-put-run c = omega (arith, part-put-run-end c)
 
 sub-put-run : tie.Need-sub-put-run Inv-loop μ-loop
-sub-put-run c = search needs
+sub-put-run c = omega arith
 
 part-put-run-start : tie.Need-part-put-run-start Inv-loop μ-loop
 part-put-run-start c = search needs
 
-part-put-run-end : tie.Need-part-put-run-end Inv-loop μ-loop
-part-put-run-end c = search needs
+sub-put-run-2 : tie.Need-sub-put-run-2 Inv-loop μ-loop
+sub-put-run-2 c = search needs
+
+part-put-run-start-2 : tie.Need-part-put-run-start-2 Inv-loop μ-loop
+part-put-run-start-2 c = search needs
+
+part-put-run-end-2 : tie.Need-part-put-run-end-2 Inv-loop μ-loop
+part-put-run-end-2 c = search needs
 
 put-run-requires : tie.Need-put-run-requires Inv-loop μ-loop
 put-run-requires c κs =
-    let t = c .before .before .before in
-    let l = t .before in (
-      turn-held (l .loop .r) (l .loop .base) (c .before .wide .result) (l .before .before .pre .0) (t .loop-test .taken) (l .loop .inv .1) (c .before .wide .ensures .0),
-      rw (l .loop .inv .1, c .before .wide .ensures .0) (putting-left (l .loop .inv .0) (t .loop-test .taken)),
+    let w = c .before .before in
+    let t = w .before .before in
+    let l = t .before in
+    let s = start w in
+    let e = run-codes-are (s .args .lengths .now) (s .args .steps .now) (l .loop .r) (l .loop .base) (w .wide .result) (l .loop .inv .1) (w .wide .ensures .0) in
+    rw e (run-coded (l .loop .r) (s .pre .0), putting-left (l .loop .inv .0) (t .loop-test .taken))
+
+loop-again : tie.Need-loop-again Inv-loop μ-loop
+loop-again c =
+    let w = c .before .before .before .before .before in
+    let t = w .before .before in
+    let l = t .before in
+    let s = start w in
+    let e = run-codes-are (s .args .lengths .now) (s .args .steps .now) (l .loop .r) (l .loop .base) (w .wide .result) (l .loop .inv .1) (w .wide .ensures .0) in (
+      putting-next (l .loop .inv .0) (t .loop-test .taken) (le-refl _) (rw e at (c .before .before .put-run .ensures)),
+      rw add-one (omega (arith, l .loop .inv .1, w .wide .ensures .0, sum-take (s .args .lengths .now) (l .loop .r))),
     )
 
 add-at : tie.Need-add-at Inv-loop μ-loop
-add-at c =
-    let t = c .before .before .before .before .before .before in
-    let s = t .before .before .before in
-    omega (arith, putting-room (t .before .loop .inv .0) (t .loop-test .taken), this-run (s .args .kinds .now) (s .args .positions .now) (t .before .loop .r) (t .before .loop .inv .1) (c .before .before .before .before .wide .ensures .0) (c .before .before .put-run .ensures) .count)
-
-add-base : tie.Need-add-base Inv-loop μ-loop
-add-base c =
-    let t = c .before .before .before .before .before .before in
-    let l = t .before in
-    let count = c .before .before .before .before .wide in
-    omega (arith, turn-held (l .loop .r) (l .loop .base) (count .result) (l .before .before .pre .0) (t .loop-test .taken) (l .loop .inv .1) (count .ensures .0) .within)
+add-at c = omega (arith, loop-again c .0 .within)
 
 add-r : tie.Need-add-r Inv-loop μ-loop
 add-r c = search needs
 
 loop-less : tie.Need-loop-less Inv-loop μ-loop
 loop-less c = search needs
-
-loop-again : tie.Need-loop-again Inv-loop μ-loop
-loop-again c =
-    let t = c .before .before .before .before .before .before in
-    let s = t .before .before .before in
-    let count = c .before .before .before .before .wide .ensures .0 in (
-      putting-next (t .before .loop .inv .0) (t .loop-test .taken) (this-run (s .args .kinds .now) (s .args .positions .now) (t .before .loop .r) (t .before .loop .inv .1) count (c .before .before .put-run .ensures)),
-      rw add-one (omega (arith, t .before .loop .inv .1, count, sum-take-suc (s .args .lens .now) (t .before .loop .r))),
-    )
 
 same-length : tie.Need-same-length Inv-loop μ-loop
 same-length c = search needs
@@ -114,15 +108,19 @@ put-runs-spec =
     Inv-loop
     μ-loop
     loop-holds
-    element-copy-out-wide
+    shared-slice-read-wide
     wide-requires
+    add-end
     cast-put-run
+    mul-put-run
     sub-put-run
     part-put-run-start
     part-put-run-end
+    sub-put-run-2
+    part-put-run-start-2
+    part-put-run-end-2
     put-run-requires
     add-at
-    add-base
     add-r
     loop-less
     loop-again

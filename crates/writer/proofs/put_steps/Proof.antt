@@ -1,42 +1,32 @@
 -- The loop puts the command of each step in turn.
-use Prim.Native.Nat.{_+_, _-_}
+use Prim.Native.Nat.{_-_}
+use native.Mathlib.Nat.{le-refl}
 use native.Mathlib.Omega.{arith}
 use borrow.Author.Needs.{needs}
-use mathlib.Core.Path.{sym, _∙_}
-use lib.ListN.{getD}
-use Rattle.writer.specs.Render.{step-bytes}
-use Rattle.writer.specs.Parts.{step-part, steps-from}
-use Rattle.writer.proofs.PutLaws.{Putting, putting-none, putting-room, putting-left, putting-next, putting-all}
-use Rattle.writer.proofs.TableLaws.{step-parts}
+use lib.ListN.{length}
+use Rattle.buffer.proofs.InTurn.{putting-exact, putting-left, putting-next, putting-all}
+use Rattle.writer.specs.inner.Groups.{bytes-of, step-commands}
+use Rattle.writer.proofs.GroupLaws.{PuttingAll, step-piece, step-pieces, step-put}
 use Rattle.writer.proofs.put_steps.Statement.{statement}
 use Rattle.writer.proofs.put_steps.Tie as tie
 
 abbrev Inv-loop : tie.InvT-loop
-Inv-loop base count kinds positions out₀ at₀ i₀ out at i =
-    Putting (step-bytes (steps-from kinds positions base count)) (λ k. step-part (getD kinds (base + k) 0) (getD positions (base + k) 0)) count out₀ out at i
+Inv-loop steps out₀ at₀ i₀ out at i = PuttingAll (bytes-of (step-commands steps)) (step-piece steps) (length steps) out₀ out at i
 
 abbrev μ-loop : tie.MeasureT-loop
-μ-loop base count kinds positions out₀ at₀ i₀ out at i = count - i
+μ-loop steps out₀ at₀ i₀ out at i = length steps - i
 
 loop-holds : tie.Need-loop-holds Inv-loop μ-loop
-loop-holds c =
-    let s = c .before in
-    let held = s .pre .0 in
-    putting-none
-    (step-parts (s .args .kinds .now) (s .args .positions .now) (s .args .base) (s .args .count) (held .kinds-long ∙ sym (held .positions-long)) (omega (arith, held .kinds-long, held .within)))
-    (s .pre .1)
+loop-holds c = putting-exact (step-pieces (c .before .before .args .steps .now)) (c .before .before .pre .1)
 
-add-j : tie.Need-add-j Inv-loop μ-loop
-add-j c = search needs
+mul-step-coded : tie.Need-mul-step-coded Inv-loop μ-loop
+mul-step-coded c = search needs
 
-element-copy-out-put-step : tie.Need-element-copy-out-put-step Inv-loop μ-loop
-element-copy-out-put-step c = search needs
+shared-slice-read-step-coded : tie.Need-shared-slice-read-step-coded Inv-loop μ-loop
+shared-slice-read-step-coded c = search needs
 
-mul-put-step : tie.Need-mul-put-step Inv-loop μ-loop
-mul-put-step c = search needs
-
-element-copy-out-put-step-2 : tie.Need-element-copy-out-put-step-2 Inv-loop μ-loop
-element-copy-out-put-step-2 c = search needs
+step-coded-requires : tie.Need-step-coded-requires Inv-loop μ-loop
+step-coded-requires c κs = c .before .before .before .before .before .pre .0 .small (c .before .before .loop .i)
 
 sub-put-step : tie.Need-sub-put-step Inv-loop μ-loop
 sub-put-step c = search needs
@@ -50,21 +40,17 @@ part-put-step-end c = search needs
 put-step-requires : tie.Need-put-step-requires Inv-loop μ-loop
 put-step-requires c κs = putting-left (c .before .before .before .before .loop .inv) (c .before .before .before .loop-test .taken)
 
+loop-again : tie.Need-loop-again Inv-loop μ-loop
+loop-again c = search (putting-next, le-refl, step-put)
+
 add-at : tie.Need-add-at Inv-loop μ-loop
-add-at c =
-    let t = c .before .before .before .before .before .before in
-    omega (arith, putting-room (t .before .loop .inv) (t .loop-test .taken), c .before .before .put-step .ensures .count)
+add-at c = omega (arith, loop-again c .within)
 
 add-i : tie.Need-add-i Inv-loop μ-loop
 add-i c = search needs
 
 loop-less : tie.Need-loop-less Inv-loop μ-loop
 loop-less c = search needs
-
-loop-again : tie.Need-loop-again Inv-loop μ-loop
-loop-again c =
-    let t = c .before .before .before .before .before .before in
-    putting-next (t .before .loop .inv) (t .loop-test .taken) (c .before .before .put-step .ensures)
 
 same-length : tie.Need-same-length Inv-loop μ-loop
 same-length c = search needs
@@ -79,10 +65,9 @@ put-steps-spec =
     Inv-loop
     μ-loop
     loop-holds
-    add-j
-    element-copy-out-put-step
-    mul-put-step
-    element-copy-out-put-step-2
+    mul-step-coded
+    shared-slice-read-step-coded
+    step-coded-requires
     sub-put-step
     part-put-step-start
     part-put-step-end

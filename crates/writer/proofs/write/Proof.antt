@@ -15,13 +15,10 @@ enum-told : tie.Need-enum-told
 enum-told c = search needs
 
 returns : tie.Need-returns
-returns c = wrote-short _ _ (c .before .before .before .read .result) (c .before .before .before .read .ensures) (c .before .enum-told .given .1) (c .if1 .taken)
+returns c = search wrote-short
 
 put-book-requires : tie.Need-put-book-requires
-put-book-requires c κs =
-    let l = c .before .before .before .before .before .before .before .before .before in
-    let r = l .before .before .before in
-    book-held _ (r .before .before .before .args .out .now) (r .read .result) (r .read .ensures) (l .before .enum-told .given .1) (r .before .before .shared-slice-known .given) (l .if1 .left)
+put-book-requires c κs = search book-held
 
 returns-2 : tie.Need-returns-2
 returns-2 c = search wrote-refused
@@ -30,10 +27,7 @@ same-length : tie.Need-same-length
 same-length c = search needs
 
 returns-3 : tie.Need-returns-3
-returns-3 c =
-    let l = c .before .before .before .before .before .before .before .before .before .before .before .before in
-    let r = l .before .before .before in
-    wrote-book _ _ (r .read .result) (r .read .ensures) (l .before .enum-told .given .1) (r .before .before .shared-slice-known .given) (l .if1 .left) _ _ (c .before .before .put-book .ensures)
+returns-3 c = search wrote-book
 
 pub write-spec : {M : Type 1} → statement M
 write-spec =

@@ -1,0 +1,2 @@
+-- No part of the statement: what the functions inside `bits` promise one another.
+pub mod Words

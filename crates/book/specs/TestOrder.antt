@@ -1,0 +1,25 @@
+-- Document 01's order of tests: "Commands are read in turn, each tested for 2, 3, 4, 5, 7, 8, 9, 6, 10; then 11". The tests of 2 and 11 stand in
+-- `command-at` and `end-at`; those of a command, 3 to 10, are its `command-tests`.
+use Prim.Native.Nat.{ℕ, suc, _≤_}
+use mathlib.Core.List.{List, [], _∷_}
+use lib.Dec.{eqb}
+use Rattle.book.specs.Format.{pick, Command, Test, ReadState, command-tests}
+use Rattle.book.specs.Numbers.{number}
+use Rattle.book.specs.declared.Rules.{Rules}
+
+abbrev pub test-order : List ℕ
+test-order = 2 ∷ 3 ∷ 4 ∷ 5 ∷ 7 ∷ 8 ∷ 9 ∷ 6 ∷ 10 ∷ []
+
+-- where a number stands in a list
+abbrev pub index-of : ℕ → List ℕ → ℕ
+index-of n [] = 0
+index-of n (m ∷ ms) = pick (eqb n m) 0 (suc (index-of n ms))
+
+-- none of these tests comes before one that document 01 has earlier
+abbrev pub InOrder : List Test → Type 0
+InOrder [] = Unit {0}
+InOrder (t ∷ []) = Unit {0}
+InOrder (t ∷ u ∷ us) = (index-of (number (t .cause)) test-order ≤ index-of (number (u .cause)) test-order) × InOrder (u ∷ us)
+
+abbrev pub TestedInOrder : Type 0
+TestedInOrder = (ρ : Rules) (s : List ℕ) (at : ℕ) (t : ReadState) (c : Command) → InOrder (command-tests ρ s at t c)

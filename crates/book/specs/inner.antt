@@ -1,0 +1,2 @@
+-- Room: when the tables have room for one more.
+pub mod Room

@@ -1,0 +1,3 @@
+-- What functions promise one another, also between crates: no part of what a user is promised.
+pub mod Tables
+pub mod Books

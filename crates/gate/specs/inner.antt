@@ -1,0 +1,2 @@
+-- Calls: what the gate's own functions promise each other.
+pub mod Calls

@@ -1,0 +1,75 @@
+-- The test of a conflict by the flags of the pairs.
+use Prim.Native.Nat.{ℕ, suc, _+_, _*_, _/_, _%_, _<_}
+use native.Mathlib.Omega.{arith}
+use mathlib.Core.Path.{_≡_, refl, sym, ap, _∙_}
+use mathlib.Core.Logic.{inl, inr}
+use mathlib.Core.Bool.{Bool, true, false, _&&_, _||_, not}
+use mathlib.Core.List.{List, [], _∷_, map}
+use lib.ListN.{getD}
+use lib.Dec.{eqb}
+use borrow.Author.Tests.{eq-eqb, ne-eqb}
+use Rattle.book.specs.Format.{kind-limit}
+use Rattle.book.specs.Book.{flagged, pair-of, pairs-of, as-step}
+use Rattle.book.specs.declared.Step.{Step as StepValue}
+use Rattle.book.proofs.Groups.{count-flagged}
+use Rattle.theory.specs.History.{suc-if, count}
+use Rattle.theory.specs.Deck.{listed, same-position, steps-conflict}
+use Rattle.theory.proofs.Places.{Compared, eq-cases}
+
+-- ---- the test of a listed pair
+
+pair-code : (x a b : ℕ) → b < kind-limit → (eqb (x / kind-limit) a && eqb (x % kind-limit) b) ≡ eqb x (a * kind-limit + b)
+pair-code x a b h = go (eq-cases (x / kind-limit) a) (eq-cases (x % kind-limit) b)
+  where
+    go : Compared (x / kind-limit) a → Compared (x % kind-limit) b → (eqb (x / kind-limit) a && eqb (x % kind-limit) b) ≡ eqb x (a * kind-limit + b)
+    go (inl c) (inl d) = rw (c .0, d .0, eq-eqb x (a * kind-limit + b) (omega (arith, c .1, d .1)))
+    go (inl c) (inr d) = rw (c .0, d .0, ne-eqb x (a * kind-limit + b) (λ e. d .1 (omega arith)))
+    go (inr c) d = rw (c .0, ne-eqb x (a * kind-limit + b) (λ e. c .1 (omega arith)))
+
+or-true : (b : Bool) → true ≡ (b || true)
+or-true true = refl
+or-true false = refl
+
+-- the pair stands in the list one way round or the other
+listed-count : (l : List ℕ) (a b : ℕ) → a < kind-limit → b < kind-limit
+    → listed (map pair-of l) a b ≡ (not (eqb (count l (a * kind-limit + b)) 0) || not (eqb (count l (b * kind-limit + a)) 0))
+listed-count [] a b ha hb = refl
+listed-count (x ∷ l) a b ha hb =
+    rw (pair-code x a b hb, pair-code x b a ha, listed-count l a b ha hb)
+    (go (eqb x (a * kind-limit + b)) (eqb x (b * kind-limit + a)) (count l (a * kind-limit + b)) (count l (b * kind-limit + a)))
+  where
+    go : (u v : Bool) (m n : ℕ) → ((u || v) || (not (eqb m 0) || not (eqb n 0))) ≡ (not (eqb (suc-if u m) 0) || not (eqb (suc-if v n) 0))
+    go true v m n = rw (ne-eqb (suc m) 0 (λ e. omega arith))
+    go false true m n = rw (ne-eqb (suc n) 0 (λ e. omega arith)) (or-true (not (eqb m 0)))
+    go false false m n = refl
+
+once : (b : Bool) → not (eqb (suc-if b 0) 0) ≡ b
+once true = refl
+once false = refl
+
+module _ (t : List ℕ) (a b : ℕ) (ha : a < kind-limit) (hb : b < kind-limit) where
+  listed-flags : listed (pairs-of t) a b ≡ (not (eqb (getD t (a * kind-limit + b) 0) 0) || not (eqb (getD t (b * kind-limit + a) 0) 0))
+  listed-flags =
+      listed-count (flagged 0 t) a b ha hb
+      ∙ rw (count-flagged t (a * kind-limit + b), count-flagged t (b * kind-limit + a), once (not (eqb (getD t (a * kind-limit + b) 0) 0)), once (not (eqb (getD t (b * kind-limit + a) 0) 0)))
+
+  pub listed-first : (getD t (a * kind-limit + b) 0 ≡ 0 → ⊥) → true ≡ listed (pairs-of t) a b
+  listed-first n = rw (listed-flags, ne-eqb (getD t (a * kind-limit + b) 0) 0 n)
+
+  pub listed-second : getD t (a * kind-limit + b) 0 ≡ 0 → not (eqb (getD t (b * kind-limit + a) 0) 0) ≡ listed (pairs-of t) a b
+  listed-second e = rw (listed-flags, eq-eqb (getD t (a * kind-limit + b) 0) 0 e)
+
+-- ---- the test of a conflict
+
+pub same-number : (p q : ℕ) → eqb p q ≡ same-position p q
+unfolding same-position
+same-number p q = refl
+
+module _ (t : List ℕ) (x y : StepValue) (same : Bool) (e : same ≡ same-position (x .position) (y .position)) where
+  pub conflict-apart : same ≡ false → false ≡ steps-conflict (pairs-of t) (as-step x) (as-step y)
+  unfolding steps-conflict
+  conflict-apart f = rw (← e, f)
+
+  pub conflict-listed : (r : Bool) (a b : ℕ) → same ≡ true → a ≡ x .kind → b ≡ y .kind → r ≡ listed (pairs-of t) a b → r ≡ steps-conflict (pairs-of t) (as-step x) (as-step y)
+  unfolding steps-conflict
+  conflict-listed r a b f ea eb l = rw (← e, f, ← ea, ← eb) l

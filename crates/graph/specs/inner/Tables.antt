@@ -1,0 +1,115 @@
+-- What the tables inside `graph` hold.
+use Prim.Native.Nat.{ℕ, zero, suc, _+_, _*_, _≤_, _<_}
+use mathlib.Core.Path.{_≡_}
+use mathlib.Core.Logic.{_⊎_, _≢_}
+use mathlib.Core.Bool.{Bool, true, false}
+use mathlib.Core.List.{List}
+use lib.ListN.{length, getD, take}
+use lib.Dec.{T}
+use Rattle.book.specs.Format.{kind-limit, run-limit, run-step-limit, step-limit}
+use Rattle.book.specs.Book.{cuts-size, run-cuts, code-limit, step-coded, as-step, pairs-of}
+use Rattle.book.specs.declared.Step.{Step as StepValue}
+use Rattle.theory.specs.Lists.{sum}
+use Rattle.theory.specs.History.{count, run, ordinal}
+use Rattle.theory.specs.Deck.{Step, steps-conflict}
+use Rattle.theory.specs.inner.Places.{place-of}
+use Rattle.bits.specs.Table.{bit-at}
+use Rattle.graph.specs.Units.{Each}
+
+-- the size of a table of a place for each step, by run and ordinal
+abbrev pub places-size : ℕ
+places-size = run-limit * run-step-limit
+
+pub record Small (m : ℕ) (l : List ℕ) : Type 0 where
+  pub small : (i : ℕ) → getD l i 0 < m
+
+-- the first n of history are the run numbers of a history in which no run has more than run-step-limit steps
+pub record HistoryOf (history : List ℕ) (n : ℕ) : Type 0 where
+  pub long : length history ≡ step-limit
+  pub within : n ≤ step-limit
+  pub runs : Small run-limit history
+  pub few : (r : ℕ) → count (take n history) r ≤ run-step-limit
+
+-- the runs of the first n places are below m
+pub record Declared (history : List ℕ) (n m : ℕ) : Type 0 where
+  pub few : m ≤ run-limit
+  pub declared : (p : ℕ) → p < n → getD history p 0 < m
+
+-- r stands at index i of t, and is below m
+pub record NumberAt (t : List ℕ) (i m r : ℕ) : Type 0 where
+  pub is : r ≡ getD t i 0
+  pub small : r < m
+
+-- ---- the steps by place
+
+-- run r's steps begin where the steps of the runs before it end
+pub record Starts (lengths starts : List ℕ) : Type 0 where
+  pub are : (r : ℕ) → r < run-limit → getD starts r 0 ≡ sum (take r lengths)
+
+-- the steps of h, of which run r's begin at starts r, are among step-limit
+pub record StepsRoom (h starts : List ℕ) : Type 0 where
+  pub room : (r i : ℕ) → r < run-limit → i < count h r → getD starts r 0 + i < step-limit
+
+-- at the place of a step stands in steps-at the code that steps has of it
+pub record StepsByPlace (h starts steps steps-at : List ℕ) (n : ℕ) : Type 0 where
+  pub at : (p : ℕ) → p < n → getD steps-at p 0 ≡ getD steps (getD starts (run h p) 0 + ordinal h p) 0
+  pub small : Small code-limit steps-at
+
+-- the step of a code in a table
+abbrev pub step-in : List ℕ → ℕ → Step
+step-in steps i = step-coded (getD steps i 0)
+
+-- x is that step
+pub record StepAt (steps : List ℕ) (i : ℕ) (x : StepValue) : Type 0 where
+  pub is : as-step x ≡ step-in steps i
+  pub kind : x .kind < kind-limit
+
+-- what a direct dependence of q on an earlier place p asks, of codes by place
+abbrev pub Link : List ℕ → List ℕ → List ℕ → ℕ → ℕ → Type 0
+Link history steps pairs p q = (getD history p 0 ≡ getD history q 0) ⊎ T (steps-conflict (pairs-of pairs) (step-in steps p) (step-in steps q))
+
+-- true only where q is linked to p; false only where it is not, or t tells already that q depends on p
+pub record Fresh (L : ℕ → ℕ → Type 0) (t : List ℕ) (p q : ℕ) (answer : Bool) : Type 0 where
+  pub linked : answer ≡ true → L p q
+  pub known : answer ≡ false → L p q → bit-at t q p ≡ 1
+
+-- ---- units
+
+-- each place's ordinal, and each step's place
+pub record Numbering (h ordinals places : List ℕ) : Type 0 where
+  pub ordinals-are : (p : ℕ) → p < length h → getD ordinals p 0 ≡ ordinal h p
+  pub places-are : (r i : ℕ) → r < run-limit → i < count h r → getD places (r * run-step-limit + i) 0 ≡ place-of h r i
+
+pub record Counts (h counts : List ℕ) : Type 0 where
+  pub are : (r : ℕ) → r < run-limit → getD counts r 0 ≡ count h r
+
+-- the flags of the cuts divide the runs into these units
+pub record CutsOf (unit : ℕ → ℕ → ℕ → ℕ) (cuts : List ℕ) : Type 0 where
+  pub rises : (r o i j : ℕ) → i ≤ j → unit r o i ≤ unit r o j
+  pub uncut : (r o i : ℕ) → o < run-limit → suc i < run-step-limit → getD cuts (r * run-cuts + suc i * run-limit + o) 0 ≡ 0 → unit r o (suc i) ≡ unit r o i
+  pub cut : (r o i : ℕ) → o < run-limit → suc i < run-step-limit → getD cuts (r * run-cuts + suc i * run-limit + o) 0 ≢ 0 → unit r o i < unit r o (suc i)
+
+-- each place of `from` up to `to` has its entries in t, for any units that the flags make
+pub record EachBy (E : (ℕ → ℕ → ℕ → ℕ) → List ℕ → ℕ → ℕ → ℕ → Type 0) (cuts h : List ℕ) (from to : ℕ) (t : List ℕ) : Type 0 where
+  pub of : (unit : ℕ → ℕ → ℕ → ℕ) → CutsOf unit cuts → Each (E unit h) from to t
+
+-- where a row of flags, one for each run, and the rows of two places, stand
+pub record RowRoom (at p from : ℕ) : Type 0 where
+  pub flags : at + run-limit ≤ cuts-size
+  pub to-row : p < step-limit
+  pub from-row : from < step-limit
+  pub apart : from ≢ p
+
+-- the first m of u's row p are v, and its other rows are t's
+pub record RowSet (t u : List ℕ) (p : ℕ) (v : ℕ → ℕ) (m : ℕ) : Type 0 where
+  pub here : (o : ℕ) → o < m → getD u (p * run-limit + o) 0 ≡ v o
+  pub others : (k o : ℕ) → o < run-limit → k ≢ p → getD u (k * run-limit + o) 0 ≡ getD t (k * run-limit + o) 0
+
+-- a where there is no flag, b where there is one
+abbrev pub by-flag : ℕ → ℕ → ℕ → ℕ
+by-flag zero a b = a
+by-flag (suc n) a b = b
+
+-- of each run o, what stands in t at `from`, or p where there is a cut
+abbrev pub copied-row : List ℕ → ℕ → List ℕ → ℕ → ℕ → ℕ → ℕ
+copied-row cuts at t p from o = by-flag (getD cuts (at + o) 0) (getD t (from * run-limit + o) 0) p

@@ -1,0 +1,18 @@
+-- The table marks the arcs of the book's own conflict and unit, and a history passes exactly where the turns take every place.
+use Rattle.graph.proofs.BookTables.{book-history}
+use Rattle.judge.proofs.BookHistory.{book-passes}
+use borrow.Author.Needs.{needs}
+use Rattle.judge.proofs.passes.Statement.{statement}
+use Rattle.judge.proofs.passes.Tie as tie
+
+arcs-requires : tie.Need-arcs-requires
+arcs-requires c κs = search needs
+
+greedy-requires : tie.Need-greedy-requires
+greedy-requires c κs = search book-history
+
+returns : tie.Need-returns
+returns c = search book-passes
+
+pub passes-spec : {M : Type 1} → statement M
+passes-spec = tie.close (tie.spec arcs-requires greedy-requires returns)

@@ -1,0 +1,20 @@
+-- The judge of a history whose arcs a table marks.
+use Prim.Native.Nat.{ℕ}
+use mathlib.Core.Bool.{Bool}
+use mathlib.Core.List.{List}
+use Rattle.theory.specs.Relative.{Lawful}
+use Rattle.theory.specs.Graph.{Arc}
+use Rattle.graph.specs.Marks.{Marks}
+use Rattle.judge.specs.Judged.{JudgedAs}
+use Rattle.judge.specs.declared.Judgement.{Judgement}
+
+-- the table marks the arcs of the graph of h, by some conflict and unit
+pub record ArcTable (h arc : List ℕ) : Type 0 where
+  pub conflict : ℕ → ℕ → ℕ → ℕ → Bool
+  pub unit : ℕ → ℕ → ℕ → ℕ
+  pub marks : Marks (Arc conflict unit h) arc
+
+-- the judgement, of every conflict and unit whose arcs the table marks
+pub record JudgedArcs (h arc order order′ cycle cycle′ : List ℕ) (r : Judgement) : Type 0 where
+  pub judged : (conflict : ℕ → ℕ → ℕ → ℕ → Bool) (unit : ℕ → ℕ → ℕ → ℕ) → Lawful conflict → Marks (Arc conflict unit h) arc
+      → JudgedAs conflict unit h order order′ cycle cycle′ (r .verdict) (r .count)

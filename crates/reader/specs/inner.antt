@@ -1,0 +1,2 @@
+-- Reader: what the reader's own functions promise each other.
+pub mod Reader

@@ -1,0 +1,7 @@
+// Links the proved library, target/staticlib/libcapi.a at the root of the repository (made by `rt staticlib capi`).
+fn main() {
+    let folder = std::path::Path::new(env!("CARGO_MANIFEST_DIR")).join("../target/staticlib");
+    println!("cargo:rustc-link-search=native={}", folder.display());
+    println!("cargo:rustc-link-lib=static=capi");
+    println!("cargo:rerun-if-changed={}", folder.join("libcapi.a").display());
+}

@@ -1,0 +1,413 @@
+//! Deck books for Rust: safe calls over the proved library (include/deck.h).
+
+use std::fmt;
+
+/// A book has at most so many bytes.
+pub const BOOK: usize = 16384;
+/// Kinds are below this.
+pub const KINDS: usize = 16;
+/// The most runs.
+pub const RUNS: usize = 16;
+/// The most steps in a run.
+pub const RUN_STEPS: usize = 32;
+/// The most steps in all.
+pub const STEPS: usize = 128;
+
+#[repr(C)]
+struct RawJudgement {
+    number: u64,
+    place: u64,
+    verdict: u64,
+    count: u64,
+}
+
+#[repr(C)]
+struct RawAnswer {
+    number: u64,
+    place: u64,
+    value: u64,
+}
+
+/// A gate's record, as `include/deck.h` lays it out.
+#[repr(C)]
+#[derive(Clone)]
+struct RawGate {
+    pairs: [u8; KINDS * KINDS],
+    cuts: [u8; RUNS * RUN_STEPS * RUNS],
+    steps: [u32; STEPS],
+    lengths: [u8; RUNS],
+    counts: [u8; RUNS],
+    kept: [u8; STEPS],
+    declared: u64,
+    total: u64,
+    kept_count: u64,
+    withdrawn: [u8; RUNS],
+}
+
+#[repr(C)]
+struct RawOpened {
+    number: u64,
+    place: u64,
+    gate: RawGate,
+}
+
+// As `include/deck.h` asserts.
+const _: () = assert!(std::mem::size_of::<RawGate>() == 9160 && std::mem::size_of::<RawOpened>() == 9176);
+
+// Of `enum deck_verdict`.
+const PASSED: u64 = 1;
+const TANGLED: u64 = 2;
+
+extern "C" {
+    fn deck_read(book: *const u8, len: usize) -> RawAnswer;
+    fn deck_judge(book: *const u8, len: usize, order: *mut u8, order_len: usize, cycle: *mut u8, cycle_len: usize) -> RawJudgement;
+    fn deck_serial(book: *const u8, len: usize) -> RawAnswer;
+    fn deck_atomic(book: *const u8, len: usize) -> RawAnswer;
+    fn deck_relserial(book: *const u8, len: usize) -> RawAnswer;
+    fn deck_conflict(book: *const u8, len: usize) -> RawAnswer;
+    fn deck_check_order(book: *const u8, len: usize, list: *const u8, list_len: usize) -> RawAnswer;
+    fn deck_check_cycle(book: *const u8, len: usize, list: *const u8, list_len: usize) -> RawAnswer;
+    fn deck_arc(book: *const u8, len: usize, from: usize, to: usize) -> RawAnswer;
+    fn deck_write(book: *const u8, len: usize, out: *mut u8, out_len: usize) -> RawAnswer;
+    fn deck_open(book: *const u8, len: usize) -> RawOpened;
+    fn deck_step(gate: *mut RawGate, run: u8) -> RawAnswer;
+    fn deck_withdraw(gate: *mut RawGate, run: u8) -> RawAnswer;
+    fn deck_replay(book: *const u8, len: usize, calls: *const u8, calls_len: usize, answers: *mut u8, answers_len: usize) -> RawAnswer;
+}
+
+macro_rules! causes {
+    ($($cause:ident = $number:literal, $text:literal;)*) => {
+        /// Why something was turned away. `cause as u8` is its number, as in `enum deck_number` of `include/deck.h`.
+        #[derive(Clone, Copy, Debug, PartialEq, Eq)]
+        pub enum Cause {
+            $(#[doc = $text] $cause = $number,)*
+        }
+
+        fn cause_of(number: u64) -> Cause {
+            match number {
+                $($number => Cause::$cause,)*
+                _ => unreachable!("no refusal has the number {}", number),
+            }
+        }
+
+        impl fmt::Display for Cause {
+            fn fmt(&self, f: &mut fmt::Formatter) -> fmt::Result {
+                f.write_str(match self {
+                    $(Cause::$cause => $text,)*
+                })
+            }
+        }
+    };
+}
+
+causes! {
+    BookTooLong = 1, "book over 16,384 bytes";
+    NoCommand = 2, "byte that is no command";
+    EndsEarly = 3, "book ends before 45 or inside operands";
+    OutOfOrder = 4, "command after a later group, or 53 before any 52";
+    WrongKind = 5, "kind above 15, or a above b";
+    NotRising = 6, "pair or triple not above the one before";
+    WrongRun = 7, "52 not the next run; 42 or 48 a run not declared; 42 a run as seen by itself";
+    TooMany = 8, "17th run, 33rd step of a run, 129th step";
+    WrongCut = 9, "cut after step 0, or not before the last step";
+    NoStepLeft = 10, "48 for a run with no step left";
+    BytesAfterEnd = 11, "bytes after 45";
+    JudgeBufferShort = 12, "the judge's order or cycle buffer under 128 bytes";
+    WriterBufferShort = 13, "the writer's buffer shorter than the book";
+    NotDeclared = 20, "gate: run not declared";
+    Withdrawn = 21, "gate: run withdrawn";
+    AllKept = 22, "gate: all steps of the run kept";
+    Tangled = 23, "gate: tangled";
+    NoCall = 24, "replay: no call, or a cut-off one, at an offset of the list";
+    AnswersShort = 25, "replay: the buffer of answers under two bytes a call";
+}
+
+/// What was turned away: why, and the offset at which it was found (0 where it has none).
+#[derive(Clone, Copy, Debug, PartialEq, Eq)]
+pub struct Refusal {
+    pub cause: Cause,
+    pub place: u64,
+}
+
+impl fmt::Display for Refusal {
+    fn fmt(&self, f: &mut fmt::Formatter) -> fmt::Result {
+        write!(f, "refused {} at {}: {}", self.cause as u8, self.place, self.cause)
+    }
+}
+
+impl std::error::Error for Refusal {}
+
+/// What the judge says of a history.
+#[derive(Clone, Debug, PartialEq, Eq)]
+pub enum Verdict {
+    /// The run numbers of an equivalent relatively serial order.
+    Passed(Vec<u8>),
+    /// The places of a cycle of the relative serialization graph.
+    Tangled(Vec<u8>),
+}
+
+fn answered(a: RawAnswer) -> Result<u64, Refusal> {
+    if a.number == 0 {
+        Ok(a.value)
+    } else {
+        Err(Refusal { cause: cause_of(a.number), place: a.place })
+    }
+}
+
+fn decided(a: RawAnswer) -> Result<bool, Refusal> {
+    Ok(answered(a)? == 1)
+}
+
+/// The number of done steps of a book.
+pub fn read(book: &[u8]) -> Result<u64, Refusal> {
+    answered(unsafe { deck_read(book.as_ptr(), book.len()) })
+}
+
+/// The verdict on a book's history, with its evidence.
+pub fn judge(book: &[u8]) -> Result<Verdict, Refusal> {
+    let (mut order, mut cycle) = ([0u8; STEPS], [0u8; STEPS]);
+    let j = unsafe { deck_judge(book.as_ptr(), book.len(), order.as_mut_ptr(), STEPS, cycle.as_mut_ptr(), STEPS) };
+    match j.verdict {
+        PASSED => Ok(Verdict::Passed(order[..j.count as usize].to_vec())),
+        TANGLED => Ok(Verdict::Tangled(cycle[..j.count as usize].to_vec())),
+        _ => Err(Refusal { cause: cause_of(j.number), place: j.place }),
+    }
+}
+
+/// Whether each run's done steps stand together.
+pub fn serial(book: &[u8]) -> Result<bool, Refusal> {
+    decided(unsafe { deck_serial(book.as_ptr(), book.len()) })
+}
+
+/// Whether the history is relatively atomic.
+pub fn relatively_atomic(book: &[u8]) -> Result<bool, Refusal> {
+    decided(unsafe { deck_atomic(book.as_ptr(), book.len()) })
+}
+
+/// Whether the history is relatively serial.
+pub fn relatively_serial(book: &[u8]) -> Result<bool, Refusal> {
+    decided(unsafe { deck_relserial(book.as_ptr(), book.len()) })
+}
+
+/// Whether the history is conflict serializable.
+pub fn conflict_serializable(book: &[u8]) -> Result<bool, Refusal> {
+    decided(unsafe { deck_conflict(book.as_ptr(), book.len()) })
+}
+
+/// Whether a list of run numbers is a relatively serial order that agrees with the history on all conflicting pairs.
+pub fn check_order(book: &[u8], list: &[u8]) -> Result<bool, Refusal> {
+    decided(unsafe { deck_check_order(book.as_ptr(), book.len(), list.as_ptr(), list.len()) })
+}
+
+/// Whether a list of places is a cycle of the history's graph.
+pub fn check_cycle(book: &[u8], list: &[u8]) -> Result<bool, Refusal> {
+    decided(unsafe { deck_check_cycle(book.as_ptr(), book.len(), list.as_ptr(), list.len()) })
+}
+
+/// Whether any arc of the history's graph leads from one place to another.
+pub fn arc(book: &[u8], from: usize, to: usize) -> Result<bool, Refusal> {
+    decided(unsafe { deck_arc(book.as_ptr(), book.len(), from, to) })
+}
+
+/// The book, written anew from what was read of it.
+pub fn write(book: &[u8]) -> Result<Vec<u8>, Refusal> {
+    let mut out = vec![0u8; book.len()];
+    let n = answered(unsafe { deck_write(book.as_ptr(), book.len(), out.as_mut_ptr(), out.len()) })?;
+    out.truncate(n as usize);
+    Ok(out)
+}
+
+/// A call to the gate.
+#[derive(Clone, Copy, Debug, PartialEq, Eq)]
+pub enum Call {
+    Step(u8),
+    Withdraw(u8),
+}
+
+/// What the gate answers.
+#[derive(Clone, Copy, Debug, PartialEq, Eq)]
+pub enum Reply {
+    /// The place of an admitted step.
+    Place(u8),
+    Withdrawn,
+    /// The run is not declared, is withdrawn, has all its steps kept, or is tangled.
+    Refused(Cause),
+}
+
+/// A gate that is held open over a book: one record, updated by each call.
+#[derive(Clone)]
+pub struct Gate {
+    record: Box<RawGate>,
+}
+
+impl Gate {
+    /// A gate over the book, whose own history plays no part: no step is kept, no run withdrawn.
+    pub fn open(book: &[u8]) -> Result<Gate, Refusal> {
+        let RawOpened { number, place, gate } = unsafe { deck_open(book.as_ptr(), book.len()) };
+        answered(RawAnswer { number, place, value: 0 })?;
+        Ok(Gate { record: Box::new(gate) })
+    }
+
+    /// The place of an admitted step, or the refusal, which changes nothing.
+    pub fn step(&mut self, run: u8) -> Reply {
+        match answered(unsafe { deck_step(&mut *self.record, run) }) {
+            Ok(place) => Reply::Place(place as u8),
+            Err(refusal) => Reply::Refused(refusal.cause),
+        }
+    }
+
+    /// Withdraws the run, or is refused and changes nothing.
+    pub fn withdraw(&mut self, run: u8) -> Reply {
+        match answered(unsafe { deck_withdraw(&mut *self.record, run) }) {
+            Ok(_) => Reply::Withdrawn,
+            Err(refusal) => Reply::Refused(refusal.cause),
+        }
+    }
+
+    /// The run numbers of the kept steps, in order.
+    pub fn kept(&self) -> &[u8] {
+        &self.record.kept[..self.record.kept_count as usize]
+    }
+
+    /// The withdrawn runs, in rising order.
+    pub fn withdrawn(&self) -> Vec<u8> {
+        (0..RUNS as u8).filter(|&run| self.record.withdrawn[run as usize] == 1).collect()
+    }
+}
+
+/// The answers of a gate newly opened over the book to a list of calls, made in turn.
+pub fn replay(book: &[u8], calls: &[Call]) -> Result<Vec<Reply>, Refusal> {
+    let bytes: Vec<u8> = calls
+        .iter()
+        .flat_map(|call| match *call {
+            Call::Step(run) => [0x53, run],
+            Call::Withdraw(run) => [0x57, run],
+        })
+        .collect();
+    let mut answers = vec![0u8; bytes.len()];
+    answered(unsafe { deck_replay(book.as_ptr(), book.len(), bytes.as_ptr(), bytes.len(), answers.as_mut_ptr(), answers.len()) })?;
+    Ok(answers
+        .chunks(2)
+        .map(|answer| match answer[0] {
+            0 => Reply::Place(answer[1]),
+            1 => Reply::Withdrawn,
+            _ => Reply::Refused(cause_of(answer[1].into())),
+        })
+        .collect())
+}
+
+#[cfg(test)]
+mod tests {
+    use super::*;
+
+    fn book(name: &str) -> Vec<u8> {
+        let path = format!("{}/../tests/books/{}.hex", env!("CARGO_MANIFEST_DIR"), name);
+        let text = std::fs::read_to_string(path).unwrap();
+        text.lines()
+            .flat_map(|line| line.split('#').next().unwrap().split_whitespace())
+            .map(|byte| u8::from_str_radix(byte, 16).unwrap())
+            .collect()
+    }
+
+    #[test]
+    fn limits_and_causes_are_those_of_the_header() {
+        let header = include_str!("../../include/deck.h");
+        let has = |name: &str, number: u64| {
+            let text = format!("{} = {},", name, number);
+            assert!(header.contains(&text), "{}", text);
+        };
+        for (name, limit) in [("BOOK", BOOK), ("KINDS", KINDS), ("RUNS", RUNS), ("RUN_STEPS", RUN_STEPS), ("STEPS", STEPS)] {
+            has(&format!("DECK_{}", name), limit as u64);
+        }
+        for number in (1..=13).chain(20..=25) {
+            let cause = format!("{:?}", cause_of(number));
+            let name = cause.chars().map(|c| if c.is_uppercase() { format!("_{}", c) } else { c.to_uppercase().collect() });
+            has(&name.collect::<String>(), number);
+        }
+    }
+
+    #[test]
+    fn row_3_passes_with_another_order() {
+        let b = book("row03");
+        assert_eq!(judge(&b), Ok(Verdict::Passed(vec![0, 0, 1, 1])));
+        assert_eq!(check_order(&b, &[0, 0, 1, 1]), Ok(true));
+        assert_eq!(check_order(&b, &[0, 1, 0, 1]), Ok(false));
+        assert_eq!(conflict_serializable(&b), Ok(true));
+        assert_eq!(relatively_serial(&b), Ok(false));
+    }
+
+    #[test]
+    fn row_4_is_tangled_with_a_cycle() {
+        let b = book("row04");
+        let cycle = match judge(&b) {
+            Ok(Verdict::Tangled(cycle)) => cycle,
+            other => panic!("{:?}", other),
+        };
+        assert_eq!(check_cycle(&b, &cycle), Ok(true));
+        assert_eq!(check_cycle(&b, &[1, 3]), Ok(true));
+        assert_eq!(check_cycle(&b, &[0, 3]), Ok(false));
+    }
+
+    #[test]
+    fn row_6_is_relatively_atomic_by_its_cut() {
+        let b = book("row06");
+        assert_eq!(serial(&b), Ok(false));
+        assert_eq!(relatively_atomic(&b), Ok(true));
+        assert_eq!(judge(&b), Ok(Verdict::Passed(vec![0, 1, 1, 0])));
+    }
+
+    #[test]
+    fn figure_3_has_the_arcs_that_001_names() {
+        let b = book("figure3");
+        // w1[x] r2[x] r3[z] w2[y] r3[y] r1[z] are places 0 to 5
+        assert_eq!(arc(&b, 5, 1), Ok(true)); // F: r1[z] to r2[x]
+        assert_eq!(arc(&b, 3, 2), Ok(true)); // B: w2[y] to r3[z]
+        assert_eq!(arc(&b, 0, 1), Ok(true)); // D
+        assert_eq!(arc(&b, 0, 5), Ok(true)); // I
+        assert_eq!(arc(&b, 1, 0), Ok(false));
+        assert_eq!(arc(&b, 0, 6), Ok(false));
+    }
+
+    #[test]
+    fn refusals_carry_cause_and_place() {
+        assert_eq!(read(&[]), Err(Refusal { cause: Cause::EndsEarly, place: 0 }));
+        assert_eq!(read(&[0x45]), Ok(0));
+        assert_eq!(judge(&[0x45, 0x45]), Err(Refusal { cause: Cause::BytesAfterEnd, place: 1 }));
+        assert_eq!(read(&[0; BOOK + 1]), Err(Refusal { cause: Cause::BookTooLong, place: 0 }));
+        assert_eq!(serial(&[0x52]), Err(Refusal { cause: Cause::EndsEarly, place: 0 }));
+        assert_eq!(read(&[0x45, 0x45]).unwrap_err().to_string(), "refused 11 at 1: bytes after 45");
+    }
+
+    #[test]
+    fn the_gate_answers_as_in_document_01() {
+        use Call::{Step, Withdraw};
+        use Cause::{AllKept, NotDeclared, Tangled};
+        use Reply::{Place, Refused, Withdrawn};
+        let calls = [Step(0), Step(1), Step(1), Step(0), Withdraw(0), Step(0), Step(1), Step(2)];
+        let (withdrawn, all_kept) = (Refused(Cause::Withdrawn), Refused(AllKept));
+        let answers = [Place(0), Place(1), Place(2), Refused(Tangled), Withdrawn, withdrawn, all_kept, Refused(NotDeclared)];
+        assert_eq!(replay(&book("row02"), &calls), Ok(answers.to_vec()));
+        assert_eq!(replay(&[], &calls), Err(Refusal { cause: Cause::EndsEarly, place: 0 }));
+    }
+
+    #[test]
+    fn a_gate_is_held_open_and_stepped() {
+        let mut gate = Gate::open(&book("row02")).unwrap();
+        assert_eq!([gate.step(0), gate.step(1), gate.step(1)], [Reply::Place(0), Reply::Place(1), Reply::Place(2)]);
+        let before = gate.clone();
+        assert_eq!(gate.step(0), Reply::Refused(Cause::Tangled));
+        assert_eq!(gate.kept(), before.kept());
+        assert_eq!(gate.withdraw(0), Reply::Withdrawn);
+        assert_eq!([gate.step(0), gate.step(1), gate.step(2)], [Cause::Withdrawn, Cause::AllKept, Cause::NotDeclared].map(Reply::Refused));
+        assert_eq!((gate.kept(), gate.withdrawn()), (&[0, 1, 1][..], vec![0]));
+        assert_eq!(Gate::open(&[0x45, 0x45]).err(), Some(Refusal { cause: Cause::BytesAfterEnd, place: 1 }));
+    }
+
+    #[test]
+    fn a_book_comes_back_byte_for_byte() {
+        for name in ["row01", "row09", "figure1-rs", "figure4"] {
+            let b = book(name);
+            assert_eq!(write(&b), Ok(b));
+        }
+    }
+}

@@ -1,0 +1,182 @@
+/* Deck books for tests and benchmarks, made from a seed, and the loop of a test on many of them. */
+#include "books.h"
+#include <stdio.h>
+#include <string.h>
+
+uint64_t draw(source *s) {
+    uint64_t z = s->state += 0x9e3779b97f4a7c15ull;
+    z = (z ^ (z >> 30)) * 0xbf58476d1ce4e5b9ull;
+    z = (z ^ (z >> 27)) * 0x94d049bb133111ebull;
+    return z ^ (z >> 31);
+}
+
+unsigned below(source *s, unsigned n) { return (unsigned)(draw(s) % n); }
+
+static uint8_t *put_pairs(source *s, const shape *f, uint8_t *o) {
+    for (unsigned a = 0; a < f->kinds; a++)
+        for (unsigned b = a; b < f->kinds; b++)
+            if (below(s, 100) < f->pairs) {
+                *o++ = 0x43;
+                *o++ = (uint8_t)a;
+                *o++ = (uint8_t)b;
+            }
+    return o;
+}
+
+static uint8_t *put_steps(source *s, unsigned steps, unsigned kinds, unsigned positions, uint8_t *o) {
+    while (steps-- > 0) {
+        unsigned position = below(s, positions);
+        *o++ = 0x53;
+        *o++ = (uint8_t)below(s, kinds);
+        *o++ = (uint8_t)(position >> 8);
+        *o++ = (uint8_t)position;
+    }
+    return o;
+}
+
+/* Puts each run's number of steps into `length`. */
+static uint8_t *put_runs(source *s, const shape *f, unsigned *length, uint8_t *o) {
+    unsigned total = 0;
+    for (unsigned r = 0; r < f->runs; r++) {
+        *o++ = 0x52;
+        *o++ = (uint8_t)r;
+        length[r] = f->fixed ? f->fixed : f->steps - below(s, below(s, 8) ? (f->steps + 1) / 2 : f->steps + 1);
+        if (total + length[r] > DECK_STEPS)
+            length[r] = DECK_STEPS - total;
+        total += length[r];
+        o = put_steps(s, length[r], f->kinds, f->positions, o);
+    }
+    return o;
+}
+
+static uint8_t *put_cuts(source *s, const shape *f, const unsigned *length, uint8_t *o) {
+    for (unsigned r = 0; r < f->runs; r++)
+        for (unsigned j = 1; j < length[r]; j++)
+            for (unsigned v = 0; v < f->runs; v++)
+                if (v != r && below(s, 100) < f->cuts) {
+                    *o++ = 0x42;
+                    *o++ = (uint8_t)r;
+                    *o++ = (uint8_t)j;
+                    *o++ = (uint8_t)v;
+                }
+    return o;
+}
+
+/* Counts the steps left of each run down in `left`. */
+static uint8_t *put_history(source *s, const shape *f, unsigned *left, uint8_t *o) {
+    unsigned open = 0;
+    for (unsigned r = 0; r < f->runs; r++)
+        open += left[r];
+    if (f->undone && below(s, 100) < f->undone)
+        open = below(s, open + 1);
+    while (open > 0) {
+        unsigned r = below(s, f->runs), n = 1 + below(s, f->burst);
+        while (n-- > 0 && left[r] > 0 && open > 0) {
+            *o++ = 0x48;
+            *o++ = (uint8_t)r;
+            left[r]--;
+            open--;
+        }
+    }
+    return o;
+}
+
+size_t make_book(source *s, const shape *f, uint8_t *out) {
+    unsigned length[DECK_RUNS];
+    uint8_t *o = put_pairs(s, f, out);
+    o = put_runs(s, f, length, o);
+    o = put_cuts(s, f, length, o);
+    o = put_history(s, f, length, o);
+    *o++ = 0x45;
+    return (size_t)(o - out);
+}
+
+size_t make_long_book(source *s, uint8_t *out) {
+    const unsigned full = DECK_STEPS / DECK_RUN_STEPS; /* so many of the longest runs have all steps */
+    unsigned fault = below(s, 4), runs = fault == 0 ? DECK_RUNS + 1 : fault == 1 ? 1 + below(s, full - 1) : full + 1;
+    uint8_t *o = out;
+    if (fault == 3) {
+        size_t len = DECK_BOOK + 1 + below(s, 1000);
+        memset(out, 0x45, len);
+        return len;
+    }
+    for (unsigned r = 0; r < runs; r++) {
+        unsigned most = DECK_RUN_STEPS, last = r + 1 == runs;
+        unsigned steps = fault == 0 ? below(s, 8) : fault == 1 ? (last ? most + 1 : below(s, most + 1)) : last ? 1 : most;
+        *o++ = 0x52;
+        *o++ = (uint8_t)r;
+        o = put_steps(s, steps, DECK_KINDS, UINT16_MAX + 1, o);
+    }
+    *o++ = 0x45;
+    return (size_t)(o - out);
+}
+
+shape draw_shape(source *s) {
+    shape f = {0};
+    int large = below(s, 4) == 0;
+    f.runs = below(s, 20) == 0 ? below(s, 2) : 2 + below(s, large ? DECK_RUNS - 1 : 3);
+    f.steps = large ? 1 + below(s, DECK_RUN_STEPS) : 2 + below(s, 5);
+    f.kinds = 1 + below(s, large ? DECK_KINDS : 4);
+    f.pairs = 20 + below(s, 81);
+    f.positions = below(s, 8) == 0 ? UINT16_MAX + 1 : 1 + below(s, large ? 100 : 5);
+    f.cuts = below(s, 4) == 0 ? 0 : below(s, 101);
+    f.burst = 1 + below(s, below(s, 2) ? 2 : f.steps);
+    f.undone = 25;
+    return f;
+}
+
+size_t damage(source *s, uint8_t *book, size_t len) {
+    static const uint8_t commands[] = {0x43, 0x52, 0x53, 0x42, 0x48, 0x45};
+    unsigned times = 1 + below(s, 3);
+    while (times-- > 0) {
+        size_t at = len ? draw(s) % len : 0;
+        switch (below(s, 6)) {
+        case 0:
+            if (len)
+                book[at] = (uint8_t)draw(s);
+            break;
+        case 1:
+            if (len)
+                book[at] = commands[below(s, 6)];
+            break;
+        case 2:
+            if (len)
+                book[at] = (uint8_t)(book[at] + (below(s, 2) ? 1 : 255));
+            break;
+        case 3:
+            len = at;
+            break;
+        case 4:
+            if (len) {
+                memmove(book + at, book + at + 1, len - at - 1);
+                len--;
+            }
+            break;
+        default:
+            if (len < BOOK_ROOM) {
+                memmove(book + at + 1, book + at, len - at);
+                book[at] = below(s, 2) ? commands[below(s, 6)] : (uint8_t)below(s, 20);
+                len++;
+            }
+        }
+    }
+    return len;
+}
+
+int test_books(uint64_t seed, long books, const char *(*test)(source *s, const uint8_t *book, size_t len)) {
+    static uint8_t book[BOOK_ROOM];
+    source s = {seed};
+    long failed = 0;
+    for (long k = 0; k < books; k++) {
+        shape f = draw_shape(&s);
+        size_t len = k % 50 ? make_book(&s, &f, book) : make_long_book(&s, book);
+        if (k % 2)
+            len = damage(&s, book, len);
+        const char *fault = test(&s, book, len);
+        failed += fault != NULL;
+        if (fault)
+            printf("book %ld: %s\n", k, fault);
+    }
+    printf("%ld passed, %ld failed\n", books - failed, failed);
+    return failed != 0;
+}

@@ -1,0 +1,45 @@
+/* Deck books for tests and benchmarks, made from a seed, and the loop of a test on many of them. */
+#ifndef BOOKS_H
+#define BOOKS_H
+#include "deck.h"
+
+enum { BOOK_ROOM = DECK_BOOK + 4096 };
+
+typedef struct {
+    uint64_t state;
+} source;
+
+uint64_t draw(source *s);
+
+/* A number from 0 to n - 1. */
+unsigned below(source *s, unsigned n);
+
+typedef struct {
+    unsigned runs; /* as many runs */
+    unsigned steps; /* steps in each run, at most */
+    unsigned fixed; /* each run has just so many */
+    unsigned kinds; /* kinds below this */
+    unsigned pairs; /* percent of the pairs of kinds that conflict */
+    unsigned positions; /* positions below this */
+    unsigned cuts; /* percent of the cuts */
+    unsigned burst; /* done steps of one run in a row, at most */
+    unsigned undone; /* percent of the histories that stop early */
+} shape;
+
+/* The length of a legal book of that shape, which goes to out, of BOOK_ROOM bytes. */
+size_t make_book(source *s, const shape *f, uint8_t *out);
+
+/* The length of a book over one of the limits, which goes to out: a run, a step of a run, a step or a byte too many. */
+size_t make_long_book(source *s, uint8_t *out);
+
+/* A shape drawn by chance, small or large. */
+shape draw_shape(source *s);
+
+/* The new length of a book with one or more bytes changed, left out or put in. */
+size_t damage(source *s, uint8_t *book, size_t len);
+
+/* Makes the test on so many books from a seed, whole, damaged and over the limits. The test answers null, or what is wrong. Prints what was wrong and
+   'N passed, M failed', a count of books; the status of a program. */
+int test_books(uint64_t seed, long books, const char *(*test)(source *s, const uint8_t *book, size_t len));
+
+#endif

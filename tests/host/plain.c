@@ -1,0 +1,506 @@
+/* Document 01 in plain C. The judge works on rows of two 64-bit words; the class tests, the arc test and the evidence checks follow the
+   definitions place by place. */
+#include "plain.h"
+#include <string.h>
+
+typedef struct {
+    uint64_t w[2];
+} row;
+
+static void set(row *r, int i) { r->w[i >> 6] |= 1ull << (i & 63); }
+static int has(const row *r, int i) { return (r->w[i >> 6] >> (i & 63)) & 1; }
+
+/* ---- reading */
+
+static plain_refusal refuse(int number, size_t place) {
+    plain_refusal r = {number, place};
+    return r;
+}
+
+/* What the commands so far leave for the next one. */
+typedef struct {
+    int group, last_pair, last_cut;
+} progress;
+
+/* One function a command, of its bytes c, as many as it has: the number of the refusal, or 0 and the book has what it adds. */
+static int read_pair(const uint8_t *c, plain_book *b, progress *p) {
+    int code = c[1] * DECK_KINDS + c[2];
+    if (p->group > 0)
+        return DECK_OUT_OF_ORDER;
+    if (c[2] >= DECK_KINDS || c[1] > c[2])
+        return DECK_WRONG_KIND;
+    if (code <= p->last_pair)
+        return DECK_NOT_RISING;
+    p->last_pair = code;
+    b->conflicts[c[1]][c[2]] = b->conflicts[c[2]][c[1]] = 1;
+    return 0;
+}
+
+static int read_run(const uint8_t *c, plain_book *b, progress *p) {
+    if (p->group > 1)
+        return DECK_OUT_OF_ORDER;
+    if (c[1] != b->runs)
+        return DECK_WRONG_RUN;
+    if (b->runs == DECK_RUNS)
+        return DECK_TOO_MANY;
+    p->group = 1;
+    b->runs++;
+    return 0;
+}
+
+static int read_step(const uint8_t *c, plain_book *b, progress *p) {
+    int r = b->runs - 1;
+    if (p->group > 1 || b->runs == 0)
+        return DECK_OUT_OF_ORDER;
+    if (c[1] >= DECK_KINDS)
+        return DECK_WRONG_KIND;
+    if (b->length[r] == DECK_RUN_STEPS || b->steps == DECK_STEPS)
+        return DECK_TOO_MANY;
+    p->group = 1;
+    b->kind[r][b->length[r]] = c[1];
+    b->position[r][b->length[r]] = (uint16_t)(c[2] << 8 | c[3]);
+    b->length[r]++;
+    b->steps++;
+    return 0;
+}
+
+static int read_cut(const uint8_t *c, plain_book *b, progress *p) {
+    int code = (c[1] * 256 + c[2]) * 256 + c[3];
+    if (p->group > 2)
+        return DECK_OUT_OF_ORDER;
+    if (c[1] >= b->runs || c[3] >= b->runs || c[1] == c[3])
+        return DECK_WRONG_RUN;
+    if (c[2] == 0 || c[2] >= b->length[c[1]])
+        return DECK_WRONG_CUT;
+    if (code <= p->last_cut)
+        return DECK_NOT_RISING;
+    p->last_cut = code;
+    p->group = 2;
+    b->cut[c[1]][c[2]][c[3]] = 1;
+    return 0;
+}
+
+static int read_done(const uint8_t *c, plain_book *b, progress *p) {
+    if (c[1] >= b->runs)
+        return DECK_WRONG_RUN;
+    if (b->done[c[1]] == b->length[c[1]])
+        return DECK_NO_STEP_LEFT;
+    p->group = 3;
+    b->done[c[1]]++;
+    b->history[b->n++] = c[1];
+    return 0;
+}
+
+plain_refusal plain_read(const uint8_t *s, size_t len, plain_book *b) {
+    progress p = {0, -1, -1};
+    size_t at = 0;
+    memset(b, 0, sizeof *b);
+    if (len > DECK_BOOK)
+        return refuse(DECK_BOOK_TOO_LONG, 0);
+    while (at < len) {
+        const uint8_t *c = s + at;
+        size_t left = len - at, size;
+        int number;
+        switch (c[0]) {
+        case 0x43:
+            number = left < (size = 3) ? DECK_ENDS_EARLY : read_pair(c, b, &p);
+            break;
+        case 0x52:
+            number = left < (size = 2) ? DECK_ENDS_EARLY : read_run(c, b, &p);
+            break;
+        case 0x53:
+            number = left < (size = 4) ? DECK_ENDS_EARLY : read_step(c, b, &p);
+            break;
+        case 0x42:
+            number = left < (size = 4) ? DECK_ENDS_EARLY : read_cut(c, b, &p);
+            break;
+        case 0x48:
+            number = left < (size = 2) ? DECK_ENDS_EARLY : read_done(c, b, &p);
+            break;
+        case 0x45:
+            return left > 1 ? refuse(DECK_BYTES_AFTER_END, at + 1) : refuse(0, 0);
+        default:
+            return refuse(DECK_NO_COMMAND, at);
+        }
+        if (number)
+            return refuse(number, at);
+        at += size;
+    }
+    return refuse(DECK_ENDS_EARLY, at);
+}
+
+size_t plain_write(const plain_book *b, uint8_t *out) {
+    uint8_t *o = out;
+    for (int x = 0; x < DECK_KINDS; x++)
+        for (int y = x; y < DECK_KINDS; y++)
+            if (b->conflicts[x][y]) {
+                *o++ = 0x43;
+                *o++ = (uint8_t)x;
+                *o++ = (uint8_t)y;
+            }
+    for (int r = 0; r < b->runs; r++) {
+        *o++ = 0x52;
+        *o++ = (uint8_t)r;
+        for (int i = 0; i < b->length[r]; i++) {
+            *o++ = 0x53;
+            *o++ = b->kind[r][i];
+            *o++ = (uint8_t)(b->position[r][i] >> 8);
+            *o++ = (uint8_t)b->position[r][i];
+        }
+    }
+    for (int r = 0; r < b->runs; r++)
+        for (int j = 0; j <= DECK_RUN_STEPS; j++)
+            for (int s = 0; s < DECK_RUNS; s++)
+                if (b->cut[r][j][s]) {
+                    *o++ = 0x42;
+                    *o++ = (uint8_t)r;
+                    *o++ = (uint8_t)j;
+                    *o++ = (uint8_t)s;
+                }
+    for (int p = 0; p < b->n; p++) {
+        *o++ = 0x48;
+        *o++ = b->history[p];
+    }
+    *o++ = 0x45;
+    return (size_t)(o - out);
+}
+
+/* ---- the graph, for the judge: rows of bits, a run's prefix at a time */
+
+typedef struct {
+    row depends[DECK_STEPS]; /* depends[q]: the places that q depends on */
+    row sources[DECK_STEPS]; /* sources[y]: the places with an arc to y */
+    row places[DECK_RUNS]; /* places[r]: the places of run r */
+    int ordinal[DECK_STEPS];
+    int place[DECK_RUNS][DECK_RUN_STEPS];
+    uint8_t first[DECK_STEPS][DECK_RUNS], last[DECK_STEPS][DECK_RUNS]; /* of the place's unit, as seen by a run */
+} graph;
+
+static void number_places(const plain_book *b, graph *g) {
+    int count[DECK_RUNS] = {0};
+    for (int p = 0; p < b->n; p++) {
+        int r = b->history[p];
+        g->ordinal[p] = count[r];
+        g->place[r][count[r]++] = p;
+        set(&g->places[r], p);
+    }
+}
+
+static int conflicting(const plain_book *b, const graph *g, int p, int q) {
+    int r = b->history[p], s = b->history[q], i = g->ordinal[p], j = g->ordinal[q];
+    return r != s && b->position[r][i] == b->position[s][j] && b->conflicts[b->kind[r][i]][b->kind[s][j]];
+}
+
+static void find_depends(const plain_book *b, graph *g) {
+    uint8_t kind[DECK_STEPS];
+    uint16_t position[DECK_STEPS];
+    for (int q = 0; q < b->n; q++) {
+        int s = b->history[q], j = g->ordinal[q];
+        kind[q] = b->kind[s][j];
+        position[q] = b->position[s][j];
+        row d = {{0, 0}};
+        if (j > 0) {
+            int p = g->place[s][j - 1];
+            d = g->depends[p];
+            set(&d, p);
+        }
+        for (int p = 0; p < q; p++)
+            if (position[p] == position[q] && b->history[p] != s && b->conflicts[kind[p]][kind[q]]) {
+                d.w[0] |= g->depends[p].w[0];
+                d.w[1] |= g->depends[p].w[1];
+                set(&d, p);
+            }
+        g->depends[q] = d;
+    }
+}
+
+static void find_units(const plain_book *b, graph *g) {
+    for (int r = 0; r < b->runs; r++) {
+        int n = b->done[r];
+        for (int i = 0; i < n; i++)
+            for (int o = 0; o < b->runs; o++) {
+                int p = g->place[r][i];
+                g->first[p][o] = i > 0 && !b->cut[r][i][o] ? g->first[g->place[r][i - 1]][o] : (uint8_t)p;
+            }
+        for (int i = n; i-- > 0;)
+            for (int o = 0; o < b->runs; o++) {
+                int p = g->place[r][i];
+                g->last[p][o] = i + 1 < n && !b->cut[r][i + 1][o] ? g->last[g->place[r][i + 1]][o] : (uint8_t)p;
+            }
+    }
+}
+
+static void find_arcs(const plain_book *b, graph *g) {
+    for (int q = 0; q < b->n; q++) {
+        int s = b->history[q];
+        if (g->ordinal[q] > 0)
+            set(&g->sources[q], g->place[s][g->ordinal[q] - 1]);
+        for (int r = 0; r < b->runs; r++) {
+            uint64_t lo = g->depends[q].w[0] & g->places[r].w[0], hi = g->depends[q].w[1] & g->places[r].w[1];
+            if (r == s || (lo | hi) == 0)
+                continue;
+            int p = hi ? 127 - __builtin_clzll(hi) : 63 - __builtin_clzll(lo);
+            g->sources[q].w[0] |= lo;
+            g->sources[q].w[1] |= hi;
+            set(&g->sources[q], g->last[p][s]);
+            row *f = &g->sources[g->first[q][r]];
+            f->w[0] |= lo;
+            f->w[1] |= hi;
+        }
+    }
+}
+
+static void build(const plain_book *b, graph *g) {
+    memset(g, 0, sizeof *g);
+    number_places(b, g);
+    find_depends(b, g);
+    find_units(b, g);
+    find_arcs(b, g);
+}
+
+int plain_judge(const plain_book *b, uint8_t *order, uint8_t *cycle, int *count) {
+    graph g;
+    row taken = {{0, 0}};
+    build(b, &g);
+    int m = 0, low = 0;
+    uint8_t seq[DECK_STEPS];
+    while (m < b->n) {
+        while (low < b->n && has(&taken, low))
+            low++;
+        int p = low;
+        while (p < b->n && (has(&taken, p) || (g.sources[p].w[0] & ~taken.w[0]) || (g.sources[p].w[1] & ~taken.w[1])))
+            p++;
+        if (p == b->n)
+            break;
+        seq[m++] = b->history[p];
+        set(&taken, p);
+    }
+    if (m == b->n) {
+        memcpy(order, seq, (size_t)m);
+        *count = m;
+        return 1;
+    }
+    int seen[DECK_STEPS], trail[DECK_STEPS], len = 0, v = low;
+    memset(seen, -1, sizeof seen);
+    while (seen[v] < 0) {
+        seen[v] = len;
+        trail[len++] = v;
+        uint64_t lo = g.sources[v].w[0] & ~taken.w[0], hi = g.sources[v].w[1] & ~taken.w[1];
+        v = lo ? __builtin_ctzll(lo) : 64 + __builtin_ctzll(hi);
+    }
+    *count = len - seen[v];
+    for (int i = 0; i < *count; i++)
+        cycle[i] = (uint8_t)trail[len - 1 - i];
+    return 0;
+}
+
+/* ---- by the definitions, place by place */
+
+typedef struct {
+    int n;
+    uint8_t run[DECK_STEPS], ordinal[DECK_STEPS];
+    uint8_t depends[DECK_STEPS][DECK_STEPS]; /* depends[p][q]: q depends on p */
+} slow;
+
+static void slow_build(const plain_book *b, const uint8_t *history, int n, slow *h) {
+    int count[DECK_RUNS] = {0};
+    memset(h, 0, sizeof *h);
+    h->n = n;
+    for (int p = 0; p < n; p++) {
+        h->run[p] = history[p];
+        h->ordinal[p] = (uint8_t)count[history[p]]++;
+    }
+    for (int q = 0; q < n; q++)
+        for (int p = 0; p < q; p++) {
+            int r = h->run[p], s = h->run[q], i = h->ordinal[p], j = h->ordinal[q];
+            h->depends[p][q] = r == s || (b->position[r][i] == b->position[s][j] && b->conflicts[b->kind[r][i]][b->kind[s][j]]);
+        }
+    for (int k = 0; k < n; k++)
+        for (int p = 0; p < k; p++)
+            if (h->depends[p][k])
+                for (int q = k + 1; q < n; q++)
+                    h->depends[p][q] |= h->depends[k][q];
+}
+
+/* how many cuts of p's run, as seen by o, lie at or before p */
+static int unit(const plain_book *b, const slow *h, int p, int o) {
+    int u = 0;
+    for (int j = 1; j <= h->ordinal[p]; j++)
+        u += b->cut[h->run[p]][j][o];
+    return u;
+}
+
+static int same_unit(const plain_book *b, const slow *h, int o, int p, int k) {
+    return h->run[p] == h->run[k] && unit(b, h, p, o) == unit(b, h, k, o);
+}
+
+static int slow_relserial(const plain_book *b, const slow *h, int atomic) {
+    for (int x = 0; x < h->n; x++)
+        for (int y = 0; y < h->n; y++) {
+            if (h->run[x] == h->run[y])
+                continue;
+            int before = 0, after = 0, dependent = 0;
+            for (int d = 0; d < h->n; d++)
+                if (same_unit(b, h, h->run[x], y, d)) {
+                    before |= d < x;
+                    after |= d > x;
+                    dependent |= h->depends[d][x] || h->depends[x][d];
+                }
+            if (before && after && (atomic || dependent))
+                return 0;
+        }
+    return 1;
+}
+
+int plain_serial(const plain_book *b) {
+    for (int p = 0; p < b->n; p++)
+        for (int q = p + 1; q < b->n; q++)
+            for (int k = q + 1; k < b->n; k++)
+                if (b->history[p] == b->history[k] && b->history[q] != b->history[p])
+                    return 0;
+    return 1;
+}
+
+int plain_atomic(const plain_book *b) {
+    slow h;
+    slow_build(b, b->history, b->n, &h);
+    return slow_relserial(b, &h, 1);
+}
+
+int plain_relserial(const plain_book *b) {
+    slow h;
+    slow_build(b, b->history, b->n, &h);
+    return slow_relserial(b, &h, 0);
+}
+
+/* the graph over the runs (003, serialization graph) has no cycle */
+int plain_conflict(const plain_book *b) {
+    int before[DECK_RUNS][DECK_RUNS] = {{0}};
+    graph g;
+    memset(&g, 0, sizeof g);
+    number_places(b, &g);
+    for (int q = 0; q < b->n; q++)
+        for (int p = 0; p < q; p++)
+            if (conflicting(b, &g, p, q))
+                before[b->history[p]][b->history[q]] = 1;
+    for (int k = 0; k < DECK_RUNS; k++)
+        for (int r = 0; r < DECK_RUNS; r++)
+            for (int s = 0; s < DECK_RUNS; s++)
+                before[r][s] |= before[r][k] && before[k][s];
+    for (int r = 0; r < DECK_RUNS; r++)
+        if (before[r][r])
+            return 0;
+    return 1;
+}
+
+int plain_order_check(const plain_book *b, const uint8_t *list, size_t len) {
+    int count[DECK_RUNS] = {0}, place[DECK_RUNS][DECK_RUN_STEPS];
+    slow h;
+    if (len != (size_t)b->n)
+        return 0;
+    for (size_t i = 0; i < len; i++) {
+        if (list[i] >= b->runs || count[list[i]] == b->done[list[i]])
+            return 0;
+        place[list[i]][count[list[i]]++] = (int)i;
+    }
+    graph g;
+    memset(&g, 0, sizeof g);
+    number_places(b, &g);
+    for (int q = 0; q < b->n; q++)
+        for (int p = 0; p < q; p++)
+            if (conflicting(b, &g, p, q) && place[b->history[p]][g.ordinal[p]] > place[b->history[q]][g.ordinal[q]])
+                return 0;
+    slow_build(b, list, (int)len, &h);
+    return slow_relserial(b, &h, 0);
+}
+
+static int slow_arc(const plain_book *b, const slow *h, int x, int y) {
+    int kinds = 0;
+    if (h->run[x] == h->run[y])
+        kinds |= h->ordinal[y] == h->ordinal[x] + 1 ? 1 : 0;
+    else
+        kinds |= h->depends[x][y] ? 2 : 0;
+    for (int p = 0; p < h->n; p++) {
+        if (h->run[p] != h->run[y] && h->depends[p][y] && same_unit(b, h, h->run[y], p, x)) {
+            int later = 0;
+            for (int k = x + 1; k < h->n; k++)
+                later |= same_unit(b, h, h->run[y], p, k);
+            kinds |= later ? 0 : 4;
+        }
+        if (h->run[x] != h->run[p] && h->depends[x][p] && same_unit(b, h, h->run[x], p, y)) {
+            int earlier = 0;
+            for (int k = 0; k < y; k++)
+                earlier |= same_unit(b, h, h->run[x], p, k);
+            kinds |= earlier ? 0 : 8;
+        }
+    }
+    return kinds;
+}
+
+int plain_arc(const plain_book *b, size_t x, size_t y) {
+    slow h;
+    if (x >= (size_t)b->n || y >= (size_t)b->n)
+        return 0;
+    slow_build(b, b->history, b->n, &h);
+    return slow_arc(b, &h, (int)x, (int)y);
+}
+
+int plain_cycle_check(const plain_book *b, const uint8_t *list, size_t len) {
+    slow h;
+    if (len < 2 || len > (size_t)b->n)
+        return 0;
+    for (size_t i = 0; i < len; i++) {
+        if (list[i] >= b->n)
+            return 0;
+        for (size_t j = 0; j < i; j++)
+            if (list[i] == list[j])
+                return 0;
+    }
+    slow_build(b, b->history, b->n, &h);
+    for (size_t i = 0; i < len; i++)
+        if (!slow_arc(b, &h, list[i], list[(i + 1) % len]))
+            return 0;
+    return 1;
+}
+
+/* ---- the gate */
+
+void plain_open(const plain_book *b, plain_gate *g) {
+    memset(g, 0, sizeof *g);
+    g->book = *b;
+    g->book.n = 0;
+    memset(g->book.done, 0, sizeof g->book.done);
+    memset(g->book.history, 0, sizeof g->book.history);
+}
+
+static int turned_away(const plain_gate *g, int r) {
+    if (r >= g->book.runs)
+        return DECK_GATE_NOT_DECLARED;
+    if (g->withdrawn[r])
+        return DECK_GATE_WITHDRAWN;
+    if (g->book.done[r] == g->book.length[r])
+        return DECK_GATE_ALL_KEPT;
+    return 0;
+}
+
+int plain_step(plain_gate *g, int r) {
+    uint8_t order[DECK_STEPS], cycle[DECK_STEPS];
+    int count, number = turned_away(g, r);
+    if (number)
+        return -number;
+    plain_book next = g->book;
+    next.history[next.n++] = (uint8_t)r;
+    next.done[r]++;
+    if (!plain_judge(&next, order, cycle, &count))
+        return -DECK_GATE_TANGLED;
+    g->book = next;
+    return next.n - 1;
+}
+
+int plain_withdraw(plain_gate *g, int r) {
+    int number = turned_away(g, r);
+    if (number)
+        return -number;
+    g->withdrawn[r] = 1;
+    return 0;
+}

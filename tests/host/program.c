@@ -1,0 +1,89 @@
+/* Runs the built program on many books from a fixed seed, whole and damaged, and compares what it writes with what plain.c says.
+     program DECK FILE       FILE is where each book is put for the program to read
+   Prints 'N passed, M failed', a count of books. */
+#include "books.h"
+#include "plain.h"
+#include <stdio.h>
+#include <stdlib.h>
+#include <string.h>
+
+enum { TEXT = 4096, BOOKS = 8000 };
+
+static const char *deck, *file;
+
+/* What the program writes for a book. */
+static size_t run(const uint8_t *book, size_t len, char *text) {
+    char command[512];
+    FILE *f = fopen(file, "wb");
+    if (!f || fwrite(book, 1, len, f) != len || fclose(f)) {
+        fprintf(stderr, "program: cannot write %s\n", file);
+        exit(2);
+    }
+    snprintf(command, sizeof command, "'%s' < '%s'", deck, file);
+    FILE *p = popen(command, "r");
+    if (!p) {
+        fprintf(stderr, "program: cannot run %s\n", deck);
+        exit(2);
+    }
+    size_t n = fread(text, 1, TEXT - 1, p);
+    text[n] = 0;
+    return pclose(p) ? 0 : n;
+}
+
+/* A line of numbers behind a word; 0 if the text is anything else. */
+static int numbers(const char *text, const char *word, uint8_t *list, size_t *count) {
+    size_t n = strlen(word);
+    if (strncmp(text, word, n))
+        return 0;
+    *count = 0;
+    for (text += n; *text == ' '; (*count)++) {
+        char *end;
+        long x = strtol(text + 1, &end, 10);
+        if (end == text + 1 || x < 0 || x > UINT8_MAX || *count == DECK_STEPS || (text[1] == '0' && end != text + 2))
+            return 0;
+        list[*count] = (uint8_t)x;
+        text = end;
+    }
+    return !strcmp(text, "\n");
+}
+
+static int right(const char *text, const uint8_t *book, size_t len) {
+    static const char *const word[] = {"no", "yes"};
+    char head[256];
+    uint8_t order[DECK_STEPS], cycle[DECK_STEPS], list[DECK_STEPS];
+    plain_book b;
+    int count;
+    size_t n;
+    plain_refusal r = plain_read(book, len, &b);
+    if (r.number) {
+        snprintf(head, sizeof head, "refused %d at %zu\n", r.number, r.place);
+        return !strcmp(text, head);
+    }
+    int passed = plain_judge(&b, order, cycle, &count);
+    snprintf(head, sizeof head, "done %d\nserial %s\natomic %s\nrelserial %s\nconflict %s\nverdict %s\n", b.n, word[plain_serial(&b)],
+             word[plain_atomic(&b)], word[plain_relserial(&b)], word[plain_conflict(&b)], passed ? "passed" : "tangled");
+    if (strncmp(text, head, strlen(head)))
+        return 0;
+    text += strlen(head);
+    if (passed)
+        return numbers(text, "order", list, &n) && n == (size_t)count && !memcmp(list, order, n);
+    return numbers(text, "cycle", list, &n) && plain_cycle_check(&b, list, n);
+}
+
+static const char *compare(source *s, const uint8_t *book, size_t len) {
+    static char text[TEXT];
+    (void)s;
+    return run(book, len, text) && right(text, book, len) ? NULL : "wrong text";
+}
+
+int main(int argc, char **argv) {
+    if (argc != 3) {
+        fprintf(stderr, "usage: program DECK FILE\n");
+        return 2;
+    }
+    deck = argv[1];
+    file = argv[2];
+    int status = test_books(1994, BOOKS, compare);
+    remove(file);
+    return status;
+}
