@@ -19,6 +19,7 @@ extern "C" {
 enum {
     DECK_BOOK = 16384, /* a book has at most so many bytes */
     DECK_KINDS = 16, /* kinds are below this */
+    DECK_POSITIONS = 65536, /* positions are below this */
     DECK_RUNS = 16, /* the most runs */
     DECK_RUN_STEPS = 32, /* the most steps in a run */
     DECK_STEPS = 128, /* the most steps in all */
@@ -93,7 +94,7 @@ typedef struct {
     uint8_t pairs[DECK_KINDS * DECK_KINDS]; /* 1 at a * DECK_KINDS + b for each listed pair of kinds a, b */
     uint8_t cuts[DECK_RUNS * DECK_RUN_STEPS * DECK_RUNS]; /* 1 at (r * DECK_RUN_STEPS + j) * DECK_RUNS + o for each cut in run r after its j-th step
                                                              as seen by run o */
-    uint32_t steps[DECK_STEPS]; /* run after run, each step's kind * 65536 + position */
+    uint32_t steps[DECK_STEPS]; /* run after run, each step's kind * DECK_POSITIONS + position */
     uint8_t lengths[DECK_RUNS]; /* the number of steps of each run */
     uint8_t counts[DECK_RUNS]; /* the number of kept steps of each run */
     uint8_t kept[DECK_STEPS]; /* the kept list: run numbers, kept_count of them */

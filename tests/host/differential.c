@@ -102,7 +102,7 @@ static int same_gate(const deck_gate *live, const plain_gate *g) {
     for (int r = 0; r < DECK_RUNS; r++) {
         same = same && live->lengths[r] == b->length[r] && live->counts[r] == b->done[r] && live->withdrawn[r] == g->withdrawn[r];
         for (int i = 0; i < b->length[r]; i++, at++)
-            same = same && live->steps[at] == (uint32_t)b->kind[r][i] * (UINT16_MAX + 1) + b->position[r][i];
+            same = same && live->steps[at] == (uint32_t)b->kind[r][i] * DECK_POSITIONS + b->position[r][i];
         for (int j = 0; j < DECK_RUN_STEPS; j++)
             for (int o = 0; o < DECK_RUNS; o++)
                 same = same && live->cuts[(r * DECK_RUN_STEPS + j) * DECK_RUNS + o] == b->cut[r][j][o];

@@ -13,7 +13,7 @@ use Rattle.theory.specs.Lists.{sum}
 use Rattle.theory.specs.History.{count}
 use Rattle.theory.specs.Deck.{Step}
 use Rattle.book.specs.Format.{kind-limit, position-limit, run-limit, run-step-limit, step-limit, pair, run, step, cut, done, effect, last, lengths, above-pair, above-cut}
-use Rattle.book.specs.Book.{pairs-size, cuts-size, run-cuts, code-limit, set-pairs, set-runs, set-cuts, set-history, flagged, pair-of, cut-of, step-coded, as-step, contents-of, Flags, RunsValid, HistoryValid, Valid, Represents}
+use Rattle.book.specs.Book.{book-of-tables, pairs-size, cuts-size, run-cuts, code-limit, set-pairs, set-runs, set-cuts, set-history, flagged, pair-of, cut-of, step-coded, as-step, contents-of, Flags, RunsValid, HistoryValid, Valid, Represents}
 use Rattle.book.specs.inner.Room.{Next, RoomFlag, RoomStep, RoomDone}
 use Rattle.book.specs.declared.Step.{Step as StepValue}
 use Rattle.book.specs.declared.Book.{Book}
@@ -85,18 +85,23 @@ module _ (b : Book) (v : Valid b) where
   unfolding contents-of
   cut-above next r j o n h k = above-cut-index (flagged 0 (b .cuts)) r j o h k ∙ rw (← n .last)
 
--- a valid book with another group
+-- a valid book by its groups
+module _ (ps cs ss ls ns h : List ℕ) (d t k : ℕ) where
+  pub valid-of : Flags pairs-size ps → RunsValid ls ss d t → Flags cuts-size cs → HistoryValid ls ns h k → Valid (book-of-tables ps cs ss ls ns h d t k)
+  valid-of p r c w = record { pairs = p; runs = r; cuts = c; history = w }
+
+-- with another group
 valid-pairs : (b : Book) (ps : List ℕ) → Valid b → Flags pairs-size ps → Valid (set-pairs b ps)
-valid-pairs b ps v f = record { pairs = f; runs = v .runs; cuts = v .cuts; history = v .history }
+valid-pairs b ps v f = valid-of _ _ _ _ _ _ _ _ _ f (v .runs) (v .cuts) (v .history)
 
 pub valid-cuts : (b : Book) (cs : List ℕ) → Valid b → Flags cuts-size cs → Valid (set-cuts b cs)
-valid-cuts b cs v f = record { pairs = v .pairs; runs = v .runs; cuts = f; history = v .history }
+valid-cuts b cs v f = valid-of _ _ _ _ _ _ _ _ _ (v .pairs) (v .runs) f (v .history)
 
 valid-runs : (b : Book) (ls ss : List ℕ) (d t : ℕ) → Valid b → RunsValid ls ss d t → HistoryValid ls (b .counts) (b .history) (b .done) → Valid (set-runs b ls ss d t)
-valid-runs b ls ss d t v r h = record { pairs = v .pairs; runs = r; cuts = v .cuts; history = h }
+valid-runs b ls ss d t v r h = valid-of _ _ _ _ _ _ _ _ _ (v .pairs) r (v .cuts) h
 
 pub valid-history : (b : Book) (ns h : List ℕ) (k : ℕ) → Valid b → HistoryValid (b .lengths) ns h k → Valid (set-history b ns h k)
-valid-history b ns h k v w = record { pairs = v .pairs; runs = v .runs; cuts = v .cuts; history = w }
+valid-history b ns h k v w = valid-of _ _ _ _ _ _ _ _ _ (v .pairs) (v .runs) (v .cuts) w
 
 -- a pair more
 abbrev pub with-pair : Book → ℕ → Book

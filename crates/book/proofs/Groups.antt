@@ -127,38 +127,38 @@ column-set n limit end xs i v end′ f h l s = record {
 pub column-more : (n limit end : ℕ) (xs : List ℕ) (end′ : ℕ) → Column n limit end xs → end ≤ end′ → Column n limit end′ xs
 column-more n limit end xs end′ f l = record { long = f .long; small = f .small; blank = λ k g. f .blank k (omega arith) }
 
--- compared left to right is compared by index
-lex : (x y a b : ℕ) → y < 16 → b < 16 → pick (eqb x a) (ltb y b) (ltb x a) ≡ leb (x * 16 + y + 1) (a * 16 + b)
-lex x y a b hy hb = go (ℕ-discrete x a) (decLe (x * 16 + y + 1) (a * 16 + b))
+-- compared left to right is compared by index; there are as many kinds as runs
+lex : (x y a b : ℕ) → y < run-limit → b < run-limit → pick (eqb x a) (ltb y b) (ltb x a) ≡ leb (x * run-limit + y + 1) (a * run-limit + b)
+lex x y a b hy hb = go (ℕ-discrete x a) (decLe (x * run-limit + y + 1) (a * run-limit + b))
   where
-    go : Dec (x ≡ a) → Dec (x * 16 + y + 1 ≤ a * 16 + b) → pick (eqb x a) (ltb y b) (ltb x a) ≡ leb (x * 16 + y + 1) (a * 16 + b)
+    go : Dec (x ≡ a) → Dec (x * run-limit + y + 1 ≤ a * run-limit + b) → pick (eqb x a) (ltb y b) (ltb x a) ≡ leb (x * run-limit + y + 1) (a * run-limit + b)
     go (yes e) (yes l) = rw (eq-eqb x a e, lt-ltb y b (omega arith), le-leb _ _ l)
-    go (yes e) (no l) = rw (eq-eqb x a e, le-ltb y b (omega arith), lt-leb (x * 16 + y + 1) (a * 16 + b) (omega arith))
+    go (yes e) (no l) = rw (eq-eqb x a e, le-ltb y b (omega arith), lt-leb (x * run-limit + y + 1) (a * run-limit + b) (omega arith))
     go (no e) (yes l) = rw (ne-eqb x a e, lt-ltb x a (omega arith), le-leb _ _ l)
-    go (no e) (no l) = rw (ne-eqb x a e, le-ltb x a (omega arith), lt-leb (x * 16 + y + 1) (a * 16 + b) (omega arith))
+    go (no e) (no l) = rw (ne-eqb x a e, le-ltb x a (omega arith), lt-leb (x * run-limit + y + 1) (a * run-limit + b) (omega arith))
 
-lex3 : (x y z a b c : ℕ) → y < 32 → z < 16 → b < 32 → c < 16
-    → pick (eqb x a) (pick (eqb y b) (ltb z c) (ltb y b)) (ltb x a) ≡ leb (x * run-cuts + y * 16 + z + 1) (a * run-cuts + b * 16 + c)
-lex3 x y z a b c hy hz hb hc = rw (lex y z b c hz hc) (go (ℕ-discrete x a) (decLe (x * run-cuts + y * 16 + z + 1) (a * run-cuts + b * 16 + c)))
+lex3 : (x y z a b c : ℕ) → y < run-step-limit → z < run-limit → b < run-step-limit → c < run-limit
+    → pick (eqb x a) (pick (eqb y b) (ltb z c) (ltb y b)) (ltb x a) ≡ leb (x * run-cuts + y * run-limit + z + 1) (a * run-cuts + b * run-limit + c)
+lex3 x y z a b c hy hz hb hc = rw (lex y z b c hz hc) (go (ℕ-discrete x a) (decLe (x * run-cuts + y * run-limit + z + 1) (a * run-cuts + b * run-limit + c)))
   where
-    go : Dec (x ≡ a) → Dec (x * run-cuts + y * 16 + z + 1 ≤ a * run-cuts + b * 16 + c)
-        → pick (eqb x a) (leb (y * 16 + z + 1) (b * 16 + c)) (ltb x a) ≡ leb (x * run-cuts + y * 16 + z + 1) (a * run-cuts + b * 16 + c)
-    go (yes e) (yes l) = rw (eq-eqb x a e, le-leb (y * 16 + z + 1) (b * 16 + c) (omega arith), le-leb _ _ l)
-    go (yes e) (no l) = rw (eq-eqb x a e, lt-leb (y * 16 + z + 1) (b * 16 + c) (omega arith), lt-leb (x * run-cuts + y * 16 + z + 1) (a * run-cuts + b * 16 + c) (omega arith))
+    go : Dec (x ≡ a) → Dec (x * run-cuts + y * run-limit + z + 1 ≤ a * run-cuts + b * run-limit + c)
+        → pick (eqb x a) (leb (y * run-limit + z + 1) (b * run-limit + c)) (ltb x a) ≡ leb (x * run-cuts + y * run-limit + z + 1) (a * run-cuts + b * run-limit + c)
+    go (yes e) (yes l) = rw (eq-eqb x a e, le-leb (y * run-limit + z + 1) (b * run-limit + c) (omega arith), le-leb _ _ l)
+    go (yes e) (no l) = rw (eq-eqb x a e, lt-leb (y * run-limit + z + 1) (b * run-limit + c) (omega arith), lt-leb (x * run-cuts + y * run-limit + z + 1) (a * run-cuts + b * run-limit + c) (omega arith))
     go (no e) (yes l) = rw (ne-eqb x a e, lt-ltb x a (omega arith), le-leb _ _ l)
-    go (no e) (no l) = rw (ne-eqb x a e, le-ltb x a (omega arith), lt-leb (x * run-cuts + y * 16 + z + 1) (a * run-cuts + b * 16 + c) (omega arith))
+    go (no e) (no l) = rw (ne-eqb x a e, le-ltb x a (omega arith), lt-leb (x * run-cuts + y * run-limit + z + 1) (a * run-cuts + b * run-limit + c) (omega arith))
 
 pub above-pair-index : (is : List ℕ) (x y : ℕ) → y < kind-limit → above-pair (map pair-of is) (record { a = x; b = y }) ≡ leb (next-of is) (x * kind-limit + y)
-above-pair-index [] x y h = rw (le-leb 0 (x * 16 + y) zero-le)
+above-pair-index [] x y h = rw (le-leb 0 (x * kind-limit + y) zero-le)
 above-pair-index (i ∷ []) x y h =
-    let e : i / 16 * 16 + i % 16 + 1 ≡ i + 1 = omega arith in
-    lex (i / 16) (i % 16) x y (omega arith) h ∙ rw e
+    let e : i / kind-limit * kind-limit + i % kind-limit + 1 ≡ i + 1 = omega arith in
+    lex (i / kind-limit) (i % kind-limit) x y (omega arith) h ∙ rw e
 above-pair-index (i ∷ j ∷ js) x y h = above-pair-index (j ∷ js) x y h
 
 pub above-cut-index : (is : List ℕ) (r j o : ℕ) → j < run-step-limit → o < run-limit
     → above-cut (map cut-of is) (record { of-run = r; after = j; seen-by = o }) ≡ leb (next-of is) (r * run-cuts + j * run-limit + o)
-above-cut-index [] r j o h k = rw (le-leb 0 (r * run-cuts + j * 16 + o) zero-le)
+above-cut-index [] r j o h k = rw (le-leb 0 (r * run-cuts + j * run-limit + o) zero-le)
 above-cut-index (i ∷ []) r j o h k =
-    let e : i / run-cuts * run-cuts + i % run-cuts / 16 * 16 + i % 16 + 1 ≡ i + 1 = omega arith in
-    lex3 (i / run-cuts) (i % run-cuts / 16) (i % 16) r j o (omega arith) (omega arith) h k ∙ rw e
+    let e : i / run-cuts * run-cuts + i % run-cuts / run-limit * run-limit + i % run-limit + 1 ≡ i + 1 = omega arith in
+    lex3 (i / run-cuts) (i % run-cuts / run-limit) (i % run-limit) r j o (omega arith) (omega arith) h k ∙ rw e
 above-cut-index (i ∷ i′ ∷ is) r j o h k = above-cut-index (i′ ∷ is) r j o h k

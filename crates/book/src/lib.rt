@@ -100,7 +100,7 @@ pub struct Step {
 pub fn code_of(x: Step) -> u32
     ensures { λ r. ⌜ r ≡ x .kind * position-limit + x .position ⌝ }
 {
-    (x.kind as u32) * 65536 + (x.position as u32)
+    (x.kind as u32) * Book::POSITIONS + (x.position as u32)
 }
 
 // The step of a code.
@@ -109,8 +109,8 @@ pub fn step_coded(code: u32) -> Step
     ensures { λ r. ⌜ as-step r ≡ step-coded code ⌝ }
 {
     Step {
-        kind: (code / 65536) as u8,
-        position: (code % 65536) as u16,
+        kind: (code / Book::POSITIONS) as u8,
+        position: (code % Book::POSITIONS) as u16,
     }
 }
 
@@ -140,6 +140,9 @@ pub struct Book {
 impl Book {
     // Kinds are below this.
     pub const KINDS: usize = 16;
+
+    // Positions are below this.
+    pub const POSITIONS: u32 = 65536;
 
     // The most runs.
     pub const RUNS: usize = 16;
@@ -182,6 +185,7 @@ impl Book {
 // The limits are the format's.
 fn limits()
     ensures { λ r. do ⌜ (← ⟦Book::KINDS⟧ .entry) ≡ kind-limit ⌝ }
+    ensures { λ r. do ⌜ (← ⟦Book::POSITIONS⟧ .entry) ≡ position-limit ⌝ }
     ensures { λ r. do ⌜ (← ⟦Book::RUNS⟧ .entry) ≡ run-limit ⌝ }
     ensures { λ r. do ⌜ (← ⟦Book::RUN_STEPS⟧ .entry) ≡ run-step-limit ⌝ }
     ensures { λ r. do ⌜ (← ⟦Book::STEPS⟧ .entry) ≡ step-limit ⌝ }

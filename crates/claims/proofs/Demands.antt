@@ -46,25 +46,25 @@ module _ (order order′ cycle cycle′ : List ℕ) (r : Judgement) where
   Kept : Type 0
   Kept = (order′ ≡ order) × (cycle′ ≡ cycle) × (r .count ≡ 0)
 
-  judged-kept : (o : Outcome) (cause : Cause) (place : ℕ) → OutcomeJudged order order′ cycle cycle′ o r → r .verdict ≡ NotJudged cause place → Kept
+  judged-unchanged : (o : Outcome) (cause : Cause) (place : ℕ) → OutcomeJudged order order′ cycle cycle′ o r → r .verdict ≡ NotJudged cause place → Kept
   unfolding Kept
-  judged-kept (refused d p) cause place j e = (j .order-kept, j .cycle-kept, j .count-is)
-  judged-kept (accepted c) cause place j e = absurd (rw e at j)
+  judged-unchanged (refused d p) cause place j e = (j .order-unchanged, j .cycle-unchanged, j .count-is)
+  judged-unchanged (accepted c) cause place j e = absurd (rw e at j)
 
-  bytes-kept : (s : List ℕ) (cause : Cause) (place : ℕ) → BytesJudged order order′ cycle cycle′ s r → r .verdict ≡ NotJudged cause place → Kept
+  bytes-unchanged : (s : List ℕ) (cause : Cause) (place : ℕ) → BytesJudged order order′ cycle cycle′ s r → r .verdict ≡ NotJudged cause place → Kept
   unfolding Kept
-  bytes-kept s cause place j e = go (decLt (length order) step-limit) (decLt (length cycle) step-limit)
+  bytes-unchanged s cause place j e = go (decLt (length order) step-limit) (decLt (length cycle) step-limit)
     where
       short : (length order < step-limit) ⊎ (length cycle < step-limit) → Kept
-      short h = let k = j .short h in (k .order-kept, k .cycle-kept, k .count-is)
+      short h = let k = j .short h in (k .order-unchanged, k .cycle-unchanged, k .count-is)
 
       go : Dec (length order < step-limit) → Dec (length cycle < step-limit) → Kept
       go (yes h) d = short (inl h)
       go (no n) (yes h) = short (inr h)
-      go (no n) (no m) = judged-kept (read s) cause place (j .long (omega arith) (omega arith)) e
+      go (no n) (no m) = judged-unchanged (read s) cause place (j .long (omega arith) (omega arith)) e
 
-writer-kept : (s before : List ℕ) (w : Written) (cause : Cause) (place : ℕ) (after : List ℕ) → NotWritten cause place ≡ w → after ≡ buffer-by w s before → after ≡ before
-writer-kept s before w cause place after e f = f ∙ rw (← e)
+writer-unchanged : (s before : List ℕ) (w : Written) (cause : Cause) (place : ℕ) (after : List ℕ) → NotWritten cause place ≡ w → after ≡ buffer-by w s before → after ≡ before
+writer-unchanged s before w cause place after e f = f ∙ rw (← e)
 
 pub demand-1 : Demand1
 unfolding Kept
@@ -72,15 +72,15 @@ demand-1 = record {
   reader = λ s r cause place h e. (read-answer (r .answer) (r .book) cause place (h .outcome ∙ e), h .empty cause place e);
   judge-short = λ s order order′ cycle cycle′ r j h. j .short h .verdict-is;
   judge-refused = λ s order order′ cycle cycle′ r cause place j a b e. subst (λ (o : Outcome). OutcomeJudged order order′ cycle cycle′ o r) e (j .long a b) .verdict-is;
-  judge-kept = λ s order order′ cycle cycle′ r cause place j e. bytes-kept order order′ cycle cycle′ r s cause place j e;
+  judge-unchanged = λ s order order′ cycle cycle′ r cause place j e. bytes-unchanged order order′ cycle cycle′ r s cause place j e;
   writer-refused = λ s before after r cause place w e. w .answer ∙ ap (λ (o : Outcome). written-by o s (length before)) e;
   writer-short = λ s before after r c w e h. w .answer ∙ ap (λ (o : Outcome). written-by o s (length before)) e ∙ rw (lt-leb (length s) (length before) h);
-  writer-kept = λ s before after cause place w. writer-kept s before (written s (length before)) cause place after (w .answer) (w .buffer);
+  writer-unchanged = λ s before after cause place w. writer-unchanged s before (written s (length before)) cause place after (w .answer) (w .buffer);
   opening-refused = λ s o cause place w e. (w .answer ∙ ap opening-answer e, w .book ∙ ap opened-book e, w .state);
   gate-refused = λ g h x cause w. w .plain;
-  gate-kept = refused-unchanged;
+  gate-unchanged = refused-unchanged;
   replay-refused = λ s calls before after r cause place w e. w .played ∙ ap (λ (o : Outcome). played-by o calls (length before)) e;
-  replay-kept = λ s calls before after r w n. w .refused-unchanged n .buffer;
+  replay-unchanged = λ s calls before after r w n. w .refused-unchanged n .buffer;
 }
 
 pub demand-1-test : (P : Contents → Type 0) → Demand1Test P

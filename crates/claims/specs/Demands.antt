@@ -46,20 +46,20 @@ pub record Demand1 : Type 0 where
       → (length order < step-limit) ⊎ (length cycle < step-limit) → r .verdict ≡ NotJudged JudgeBufferShort 0
   pub judge-refused : (s order order′ cycle cycle′ : List ℕ) (r : Judgement) (cause : Cause) (place : ℕ) → BytesJudged order order′ cycle cycle′ s r
       → step-limit ≤ length order → step-limit ≤ length cycle → read s ≡ refused cause place → r .verdict ≡ NotJudged cause place
-  pub judge-kept : (s order order′ cycle cycle′ : List ℕ) (r : Judgement) (cause : Cause) (place : ℕ) → BytesJudged order order′ cycle cycle′ s r
+  pub judge-unchanged : (s order order′ cycle cycle′ : List ℕ) (r : Judgement) (cause : Cause) (place : ℕ) → BytesJudged order order′ cycle cycle′ s r
       → r .verdict ≡ NotJudged cause place → (order′ ≡ order) × (cycle′ ≡ cycle) × (r .count ≡ 0)
   -- 1 to 11 come first, then 13
   pub writer-refused : (s before after : List ℕ) (r : Written) (cause : Cause) (place : ℕ) → Wrote s before after r → read s ≡ refused cause place → r ≡ NotWritten cause place
   pub writer-short : (s before after : List ℕ) (r : Written) (c : Contents) → Wrote s before after r → read s ≡ accepted c → length before < length s → r ≡ NotWritten WriterBufferShort 0
-  pub writer-kept : (s before after : List ℕ) (cause : Cause) (place : ℕ) → Wrote s before after (NotWritten cause place) → after ≡ before
+  pub writer-unchanged : (s before after : List ℕ) (cause : Cause) (place : ℕ) → Wrote s before after (NotWritten cause place) → after ≡ before
   -- a refused opening hands back, beside number and place, the gate of a book without runs
   pub opening-refused : (s : List ℕ) (o : Opened) (cause : Cause) (place : ℕ) → OpenedAs (read s) o → read s ≡ refused cause place
       → (o .answer ≡ NotRead cause place) × (book-of (o .gate) ≡ nothing) × (state-of (o .gate) ≡ newly-opened)
   -- step and withdraw: the number is the plain gate's, and no byte of the record changes
   pub gate-refused : (g h : Gate) (x : Call) (cause : Cause) → CalledAs g x (CallRefused cause) h → PlainCall (book-of g) (state-of g) x (refused-by (number cause)) (state-of h)
-  pub gate-kept : (g h : Gate) (x : Call) (cause : Cause) → Sound g → CalledAs g x (CallRefused cause) h → h ≡ g
+  pub gate-unchanged : (g h : Gate) (x : Call) (cause : Cause) → Sound g → CalledAs g x (CallRefused cause) h → h ≡ g
   pub replay-refused : (s calls before after : List ℕ) (r : Replayed) (cause : Cause) (place : ℕ) → Replays s calls before after r → read s ≡ refused cause place → r .played ≡ NotReplayed cause place
-  pub replay-kept : (s calls before after : List ℕ) (r : Replayed) → Replays s calls before after r → ((n : ℕ) → r .played ≢ Done n) → after ≡ before
+  pub replay-unchanged : (s calls before after : List ℕ) (r : Replayed) → Replays s calls before after r → ((n : ℕ) → r .played ≢ Done n) → after ≡ before
 
 -- Demand 1 of a class test, the order check, the cycle check or the arc test, which asks whether the contents have the property P: 1 to 11.
 pub record Demand1Test (P : Contents → Type 0) : Type 0 where

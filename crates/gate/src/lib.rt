@@ -62,16 +62,16 @@ enum Eligibility {
 }
 
 fn eligibility_of<'a>(
-    runs: usize,
+    declared: usize,
     lengths: &'a [u8; Book::RUNS],
     counts: &'a [u8; Book::RUNS],
     withdrawn: &'a [u8; Book::RUNS],
     i: usize,
 ) -> Eligibility
-    requires { ⌜ runs ≤ run-limit ⌝ }
-    ensures { λ r. ⌜ EligibilityIn runs (now (lengths .entry)) (now (counts .entry)) (now (withdrawn .entry)) i r ⌝ }
+    requires { ⌜ declared ≤ run-limit ⌝ }
+    ensures { λ r. ⌜ EligibilityIn declared (now (lengths .entry)) (now (counts .entry)) (now (withdrawn .entry)) i r ⌝ }
 {
-    if i >= runs {
+    if i >= declared {
         return Eligibility::Refused(Cause::NotDeclared);
     }
     if withdrawn[i] != 0 {
@@ -84,7 +84,7 @@ fn eligibility_of<'a>(
 }
 
 // The book with one more step of run r done.
-fn with_step(mut b: Book, r: u8) -> Book
+fn with_done(mut b: Book, r: u8) -> Book
     requires { ⌜ StepLeft b r ⌝ }
     ensures { λ x. ⌜ Represents (effect (done r) (contents-of b)) x ⌝ }
 {
@@ -114,7 +114,7 @@ fn step_value(g: Gate, r: u8) -> Called
         }
         Eligibility::Eligible => {
             let place = b.done;
-            let longer = with_step(b, r);
+            let longer = with_done(b, r);
             if judge::passes(longer) {
                 return Called {
                     answer: Reply::Place(place),

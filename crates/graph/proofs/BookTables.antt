@@ -182,9 +182,9 @@ module _ (b : Book) (v : Valid b) where
       let e : length h ≡ b .done = history-length book-history in
       record {
         firsts-are = rw e (f .of (unit-of (contents-of b)) book-cuts);
-        firsts-kept = rw e fk;
+        firsts-unchanged = rw e fk;
         lasts-are = rw e (l .of (unit-of (contents-of b)) book-cuts);
-        lasts-kept = rw e lk;
+        lasts-unchanged = rw e lk;
       }
 
   -- ---- direct dependence

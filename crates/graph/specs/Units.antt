@@ -28,6 +28,6 @@ pub record UnchangedFrom (n : ℕ) (t u : List ℕ) : Type 0 where
 -- what filling the tables firsts and lasts makes of them
 pub record UnitTables (unit : ℕ → ℕ → ℕ → ℕ) (h firsts firsts′ lasts lasts′ : List ℕ) : Type 0 where
   pub firsts-are : Firsts unit h firsts′
-  pub firsts-kept : UnchangedFrom (length h) firsts firsts′
+  pub firsts-unchanged : UnchangedFrom (length h) firsts firsts′
   pub lasts-are : Lasts unit h lasts′
-  pub lasts-kept : UnchangedFrom (length h) lasts lasts′
+  pub lasts-unchanged : UnchangedFrom (length h) lasts lasts′

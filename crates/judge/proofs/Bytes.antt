@@ -22,7 +22,7 @@ abbrev refusal : Cause → ℕ → Judgement
 refusal cause place = record { verdict = Refused cause place; count = 0 }
 
 refused-as : (order cycle : List ℕ) (cause : Cause) (place : ℕ) (r : Judgement) → r ≡ refusal cause place → RefusedAs order order cycle cycle cause place r
-refused-as order cycle cause place r e = record { verdict-is = ap (λ (x : Judgement). x .verdict) e; numbers = rw e; count-is = ap (λ (x : Judgement). x .count) e; order-kept = refl; cycle-kept = refl }
+refused-as order cycle cause place r e = record { verdict-is = ap (λ (x : Judgement). x .verdict) e; numbers = rw e; count-is = ap (λ (x : Judgement). x .count) e; order-unchanged = refl; cycle-unchanged = refl }
 
 not-both : {m n : ℕ} {P : Type 0} → m < n → n ≤ m → P
 not-both a b = absurd (omega arith)

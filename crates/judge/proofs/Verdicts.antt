@@ -66,7 +66,7 @@ module _ (history : List ℕ) (n : ℕ) (arc : List ℕ) (hs : HistoryOf history
         evidence = evidence law e;
         count-is = sym n-is;
         order-is = rw (n-is, e) (rw (turns-long history n arc t ta e) at (p .bytes));
-        cycle-kept = refl;
+        cycle-unchanged = refl;
       }
 
       module _ (ne : t .count ≡ n → ⊥) where
@@ -118,7 +118,7 @@ module _ (history : List ℕ) (n : ℕ) (arc : List ℕ) (hs : HistoryOf history
       evidence = evidence;
       count-is = c .written .count;
       cycle-is = c .written .bytes;
-      order-kept = refl;
+      order-unchanged = refl;
     }
       where
         arc-of : (x y : ℕ) → ArcIn arc n x y → Arc conflict unit h x y

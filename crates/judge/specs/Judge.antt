@@ -20,8 +20,8 @@ module _ (order order′ cycle cycle′ : List ℕ) where
     pub verdict-is : r .verdict ≡ Refused cause place
     pub numbers : verdict-numbers (r .verdict) ≡ refused-with cause place
     pub count-is : r .count ≡ 0
-    pub order-kept : order′ ≡ order
-    pub cycle-kept : cycle′ ≡ cycle
+    pub order-unchanged : order′ ≡ order
+    pub cycle-unchanged : cycle′ ≡ cycle
 
   -- refused as the book was, or the verdict on its history
   abbrev pub OutcomeJudged : Outcome → Judgement → Type 0

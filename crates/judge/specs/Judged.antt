@@ -27,7 +27,7 @@ module _ (conflict : ℕ → ℕ → ℕ → ℕ → Bool) (unit : ℕ → ℕ �
     pub evidence : RelativelySerialOrder conflict unit h taken
     pub count-is : count ≡ length h
     pub order-is : order′ ≡ taken ++ drop (length h) order
-    pub cycle-kept : cycle′ ≡ cycle
+    pub cycle-unchanged : cycle′ ≡ cycle
 
   -- 01: the cycle buffer begins with a cycle, one byte a place, and the count is its length; all else is unchanged
   pub record TangledAs (count : ℕ) : Type 0 where
@@ -36,7 +36,7 @@ module _ (conflict : ℕ → ℕ → ℕ → ℕ → Bool) (unit : ℕ → ℕ �
     pub evidence : Cycle conflict unit h places
     pub count-is : count ≡ length places
     pub cycle-is : cycle′ ≡ places ++ drop (length places) cycle
-    pub order-kept : order′ ≡ order
+    pub order-unchanged : order′ ≡ order
 
   -- a history that was read is never refused
   abbrev pub JudgedAs : Verdict → ℕ → Type 0

@@ -73,7 +73,7 @@ module _ (s : List ℕ) (at : ℕ) (p : Progress) where
       unfolding operand-tests
       pair-on h = taken Any pair-at s at p (Pair i)
           (λ b u t. (le-leb _ _ h0, (le-leb _ _ h1, (rw (← ey) (lt-ltb _ _ h2), (rw (← ex, ← ey) (le-leb _ _ h3), (above-pairs b u h2 i e ∙ le-leb _ _ h, tt))))))
-          (λ b u t. let l0 : i / 16 ≡ x = omega arith in let l1 : i % 16 ≡ y = omega arith in rw (l0, l1, ex, ey))
+          (λ b u t. let l0 : i / kind-limit ≡ x = omega arith in let l1 : i % kind-limit ≡ y = omega arith in rw (l0, l1, ex, ey))
           (λ b u t. record { rising = h; low = omega arith })
           (λ l. omega arith)
 
@@ -251,9 +251,9 @@ module _ (s : List ℕ) (at : ℕ) (p : Progress) (ls : List ℕ) where
               cut-on h = taken (Lengths ls) cut-at s at p (Cut i)
                   (λ b u t. (le-leb _ _ h0, (le-leb _ _ h1, (own b u, (viewer b u, (rw (← er, ← eo, ne-eqb r o h4), (positive, (inside b u t, (above-cuts b u t ∙ le-leb _ _ h, tt)))))))))
                   (λ b u t.
-                  let l0 : i / 512 ≡ r = omega (arith, z .limited .few, j-low b u t) in
-                  let l1 : i % 512 / 16 ≡ j = omega (arith, z .limited .few, j-low b u t) in
-                  let l2 : i % 16 ≡ o = omega (arith, z .limited .few, j-low b u t) in
+                  let l0 : i / run-cuts ≡ r = omega (arith, z .limited .few, j-low b u t) in
+                  let l1 : i % run-cuts / run-limit ≡ j = omega (arith, z .limited .few, j-low b u t) in
+                  let l2 : i % run-limit ≡ o = omega (arith, z .limited .few, j-low b u t) in
                   rw (l0, l1, l2, er, ej, eo))
                   (λ b u t. record { rising = h; low = omega (arith, z .limited .few, j-low b u t) })
                   (λ l. omega arith)

@@ -17,6 +17,7 @@ use denote.Ref.{RefT, ShrRef, ptr-vals, shr-copy}
 use denote.Steps.{nothing}
 use denote.Struct.Laws as LL
 use denote.Enum.Laws as EL
+use Rattle.book.specs.Format.{run-limit}
 use Rattle.reader.specs.declared.Progress.{Progress}
 use Rattle.reader.specs.declared.Parsed.{Parsed}
 use Rattle.reader.specs.declared.CommandRead.{CommandRead}
@@ -29,7 +30,7 @@ use Rattle.reader.proofs.CommandRead.Laws as O′
 
 -- a table of a number for each run
 abbrev pub Table : RattleType
-Table = Array u8 16
+Table = Array u8 run-limit
 
 abbrev pub progress-val : Progress → Val
 progress-val p = LL.tuple-val P.the-type P′.the-laws (P.the-type .to p)

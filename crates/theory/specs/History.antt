@@ -39,6 +39,7 @@ Order h l = (r : ℕ) → count l r ≡ count h r
 abbrev pub Serial : List ℕ → Type 0
 Serial h = (a b c : ℕ) → a < b → b < c → c < length h → run h a ≡ run h c → run h b ≡ run h a
 
+-- x in front of l where the test holds
 abbrev pub only : Bool → ℕ → List ℕ → List ℕ
 only true x l = x ∷ l
 only false x l = l

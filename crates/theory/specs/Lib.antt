@@ -10,7 +10,8 @@
 --   a, b, c  places of l, or of the one list that a definition speaks of, in rising order; d any place of it
 --   x, y     the ends of an arc, from x to y; two steps
 --   f        the first or the last place of a unit
---   c        a cycle, where it is a list; in Deck a cut, with a, b kinds and p, q positions
+--   c        a cycle, where it is a list
+-- In Deck c is a cut, a and b are kinds, p and q positions, and p the first of a list of pairs. In Rows r, w and a are kinds of step, y and n answers.
 pub mod Lists
 pub mod History
 pub mod Relative

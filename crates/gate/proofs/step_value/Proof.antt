@@ -19,8 +19,8 @@ returns c = search step-refuses
 enum-told : tie.Need-enum-told
 enum-told c = search needs
 
-with-step-requires : tie.Need-with-step-requires
-with-step-requires c κs = search step-left
+with-done-requires : tie.Need-with-done-requires
+with-done-requires c κs = search step-left
 
 passes-requires : tie.Need-passes-requires
 passes-requires c κs = search needs
@@ -40,7 +40,7 @@ step-value-spec =
     enum-known-cause
     returns
     enum-told
-    with-step-requires
+    with-done-requires
     passes-requires
     returns-2
     returns-3)

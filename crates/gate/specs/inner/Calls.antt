@@ -21,16 +21,16 @@ use Rattle.gate.specs.declared.Eligibility.the-variants.{Eligible, Refus
 use Rattle.gate.specs.declared.AnswerBytes.{AnswerBytes}
 
 -- 20, 21 and 22 read off the tables
-module _ (runs : ℕ) (ls ns flags : List ℕ) (i : ℕ) where
+module _ (d : ℕ) (ls ns flags : List ℕ) (i : ℕ) where
   pub record EligibleIn : Type 0 where
-    pub declared : i < runs
+    pub declared : i < d
     pub present : getD flags i 0 ≡ 0
     pub left : getD ns i 0 < getD ls i 0
 
   pub data RefusalIn : Cause → Type 0 where
-    not-declared : runs ≤ i → RefusalIn NotDeclared
-    was-withdrawn : i < runs → ¬ (getD flags i 0 ≡ 0) → RefusalIn WasWithdrawn
-    all-kept : i < runs → getD flags i 0 ≡ 0 → getD ls i 0 ≤ getD ns i 0 → RefusalIn AllKept
+    not-declared : d ≤ i → RefusalIn NotDeclared
+    was-withdrawn : i < d → ¬ (getD flags i 0 ≡ 0) → RefusalIn WasWithdrawn
+    all-kept : i < d → getD flags i 0 ≡ 0 → getD ls i 0 ≤ getD ns i 0 → RefusalIn AllKept
 
   abbrev pub EligibilityIn : Eligibility → Type 0
   EligibilityIn Eligible = EligibleIn

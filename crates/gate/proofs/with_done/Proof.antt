@@ -1,8 +1,8 @@
 -- `with_step` is right: it is the reader's own addition of a done step, for which run r has room.
 use Rattle.gate.proofs.Records.{step-run, step-place, step-count, step-fits, step-book}
 use borrow.Author.Needs.{needs}
-use Rattle.gate.proofs.with_step.Statement.{statement}
-use Rattle.gate.proofs.with_step.Tie as tie
+use Rattle.gate.proofs.with_done.Statement.{statement}
+use Rattle.gate.proofs.with_done.Tie as tie
 
 wide-requires : tie.Need-wide-requires
 wide-requires c κs = search needs
@@ -25,8 +25,8 @@ add-b-2 c = search step-count
 returns : tie.Need-returns
 returns c = search step-book
 
-pub with-step-spec : {M : Type 1} → statement M
-with-step-spec =
+pub with-done-spec : {M : Type 1} → statement M
+with-done-spec =
     tie.close
     (tie.spec
     wide-requires
