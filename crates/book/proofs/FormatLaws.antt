@@ -9,7 +9,7 @@ use borrow.Author.Tests.{ltb-true, leb-true, eqb-true, lt-ltb, le-leb}
 use lib.ListN.{length, getD, drop, length-drop, length-append, drop-of-length-le}
 use lib.Seq.{drop-cons, getD-drop}
 use lib.Dec.{ltb, leb, eqb}
-use Rattle.book.specs.Format.{Contents, Outcome, refused, accepted, pick, byte, Bytes, Command, pair, run, step, cut, done, command-bytes, width, group-of, operand-tests, Test, test, ReadState, Move, over, check, checks, command-tests, after, obeyed, pair-at, run-at, step-at, cut-at, done-at, obey, end-at, command-at, follow, start}
+use Rattle.book.specs.Format.{Contents, Outcome, refused, accepted, pick, byte, Bytes, Command, pair, run, step, cut, done, command-bytes, width, group-of, operand-tests, Test, test, ReadState, Move, over, check, checks, command-tests, next-state, obeyed, pair-at, run-at, step-at, cut-at, done-at, obey, end-at, command-at, follow, start}
 use Rattle.book.specs.declared.Rules.{Rules}
 use Rattle.book.specs.declared.Cause.{Cause}
 use Rattle.book.specs.declared.Cause.the-variants.{EndsEarly, NoCommand, BytesAfterEnd}
@@ -27,7 +27,7 @@ abbrev pub offers : Rules → Command → Bool
 offers ρ (pair p) = true
 offers ρ (run r) = true
 offers ρ (step x) = true
-offers ρ (cut c) = ρ .cuts
+offers ρ (cut c) = ρ .«has_cuts»
 offers ρ (done r) = true
 
 -- a command is permitted in a state
@@ -40,7 +40,7 @@ pub record Permitted (ρ : Rules) (t : ReadState) (c : Command) : Type 0 where
 -- the states that commands lead to from the start
 pub data WellFormed (ρ : Rules) : ReadState → Type 0 where
   empty : WellFormed ρ start
-  more : {t : ReadState} → WellFormed ρ t → (c : Command) → Permitted ρ t c → WellFormed ρ (after c t)
+  more : {t : ReadState} → WellFormed ρ t → (c : Command) → Permitted ρ t c → WellFormed ρ (next-state c t)
 
 -- the contents of a book: commands lead there from the start
 pub record IsBook (ρ : Rules) (d : Contents) : Type 0 where
@@ -80,7 +80,7 @@ module _ (ρ : Rules) (s rest : List ℕ) (at : ℕ) (t : ReadState) where
       let e : x .position / 256 * 256 + x .position % 256 ≡ x .position = omega arith in
       rw (begun (step x) d, first-byte s _ at d) (obey-read step-at (step x) (rw (byte-at s _ at d 1, byte-at s _ at d 2, byte-at s _ at d 3, e)) h d)
   command-read (cut c) h d =
-      rw (begun (cut c) d, first-byte s _ at d) (checks-hold (test (ρ .cuts) NoCommand ∷ []) at _ (h .offered, tt) ∙ obey-read cut-at (cut c) (rw (byte-at s _ at d 1, byte-at s _ at d 2, byte-at s _ at d 3)) h d)
+      rw (begun (cut c) d, first-byte s _ at d) (checks-hold (test (ρ .«has_cuts») NoCommand ∷ []) at _ (h .offered, tt) ∙ obey-read cut-at (cut c) (rw (byte-at s _ at d 1, byte-at s _ at d 2, byte-at s _ at d 3)) h d)
   command-read (done r) h d =
       rw (begun (done r) d, first-byte s _ at d) (obey-read done-at (done r) (rw (byte-at s _ at d 1)) h d)
 
@@ -143,7 +143,7 @@ module _ (s : List ℕ) (at : ℕ) where
 
 -- how an accepting reader goes on
 pub data Goes (ρ : Rules) (s : List ℕ) (at : ℕ) (t : ReadState) (f : ℕ → ReadState → Outcome) (d : Contents) : Type 0 where
-  command : (c : Command) → Permitted ρ t c → drop at s ≡ command-bytes c ++ drop (at + width c) s → f (at + width c) (after c t) ≡ accepted d → Goes ρ s at t f d
+  command : (c : Command) → Permitted ρ t c → drop at s ≡ command-bytes c ++ drop (at + width c) s → f (at + width c) (next-state c t) ≡ accepted d → Goes ρ s at t f d
   end : drop at s ≡ 0x45 ∷ [] → t .contents ≡ d → Goes ρ s at t f d
 
 module _ (ρ : Rules) (s : List ℕ) (bytes : Bytes s) (at : ℕ) (t : ReadState) (f : ℕ → ReadState → Outcome) (d : Contents) where
@@ -186,8 +186,8 @@ module _ (ρ : Rules) (s : List ℕ) (bytes : Bytes s) (at : ℕ) (t : ReadState
       branch f d (byte s at) 0x43 (obey pair-at ρ s at t) _ (h .1) (λ b. obey-next pair-at refl (drop-command s at 0x43 2 b)) (λ e.
       branch f d (byte s at) 0x52 (obey run-at ρ s at t) _ e (λ b. obey-next run-at refl (drop-command s at 0x52 1 b)) (λ e.
       branch f d (byte s at) 0x53 (obey step-at ρ s at t) _ e (λ b. obey-next step-at refl (step-next b)) (λ e.
-      branch f d (byte s at) 0x42 (check (ρ .cuts) NoCommand at (obey cut-at ρ s at t)) _ e
-      (λ b e. let c = check-passed f d (ρ .cuts) NoCommand at (obey cut-at ρ s at t) e in obey-next cut-at (c .0) (drop-command s at 0x42 3 b) (c .1)) (λ e.
+      branch f d (byte s at) 0x42 (check (ρ .«has_cuts») NoCommand at (obey cut-at ρ s at t)) _ e
+      (λ b e. let c = check-passed f d (ρ .«has_cuts») NoCommand at (obey cut-at ρ s at t) e in obey-next cut-at (c .0) (drop-command s at 0x42 3 b) (c .1)) (λ e.
       branch f d (byte s at) 0x48 (obey done-at ρ s at t) _ e (λ b. obey-next done-at refl (drop-command s at 0x48 1 b)) (λ e.
       branch f d (byte s at) 0x45 (end-at ρ s at t) _ e (end-next (ltb-true at (length s) (h .0))) (λ e.
       not-accepted NoCommand at d e))))))

@@ -9,7 +9,7 @@ use lib.ListN.{length, getD}
 use lib.Dec.{eqb}
 use Rattle.theory.specs.History.{count, suc-if}
 use Rattle.theory.proofs.Lists.{count-append, count-snoc, getD-inside}
-use Rattle.book.specs.Format.{Bytes, Contents, with-history, Allowed, lengths, pair, run, step, cut, done, command-bytes, operand-tests, ReadState, after}
+use Rattle.book.specs.Format.{Bytes, Contents, with-history, Allowed, lengths, pair, run, step, cut, done, command-bytes, operand-tests, ReadState, next-state}
 use Rattle.book.specs.declared.Rules.{Rules}
 use Rattle.book.proofs.Groups.{length-lengths}
 use Rattle.book.proofs.FormatLaws.{Permitted, WellFormed, empty, more, IsBook}
@@ -76,7 +76,7 @@ module _ {ρ : Rules} where
 
       one : IsBook ρ (with-history d (h ++ r ∷ []))
       one = record {
-        state = after (done r) (b .state);
+        state = next-state (done r) (b .state);
         well-formed = more (b .well-formed) (done r) (done-permitted (b .well-formed) r (rw (b .contents) left));
         contents = rw (b .contents);
       }

@@ -9,7 +9,7 @@ use Rattle.buffer.specs.Each.{each}
 use Rattle.buffer.proofs.EachLaws.{each-append, each-snoc, each-length, each-map}
 use Rattle.theory.specs.Deck.{Step}
 use Rattle.theory.specs.Lists.{sum}
-use Rattle.book.specs.Format.{Contents, Command, pair, run, step, cut, done, command-bytes, add-last, operand-tests, ReadState, after, lengths}
+use Rattle.book.specs.Format.{Contents, Command, pair, run, step, cut, done, command-bytes, add-last, operand-tests, ReadState, next-state, lengths}
 use Rattle.book.specs.Render.{run-commands, commands-of, render}
 use Rattle.book.specs.declared.Rules.{Rules}
 use Rattle.book.proofs.FormatLaws.{Permitted, WellFormed, empty, more}
@@ -37,14 +37,14 @@ pub record Grouped (t : ReadState) : Type 0 where
   pub last : t .group ≤ 3
 
 module _ (ρ : Rules) (t : ReadState) (g : Grouped t) where
-  group-more : (c : Command) → Permitted ρ t c → Grouped (after c t)
+  group-more : (c : Command) → Permitted ρ t c → Grouped (next-state c t)
   group-more (pair p) h = record { runs = λ _. g .runs (h .group); cuts = λ _. g .cuts (omega arith); history = λ _. g .history (omega arith); last = omega arith }
   group-more (run r) h = record { runs = λ z. absurd (omega arith); cuts = λ _. g .cuts (h .group); history = λ _. g .history (omega arith); last = omega arith }
   group-more (step x) h = record { runs = λ z. absurd (omega arith); cuts = λ _. g .cuts (h .group); history = λ _. g .history (omega arith); last = omega arith }
   group-more (cut c) h = record { runs = λ z. absurd (omega arith); cuts = λ z. absurd (omega arith); history = λ _. g .history (h .group); last = omega arith }
   group-more (done r) h = record { runs = λ z. absurd (omega arith); cuts = λ z. absurd (omega arith); history = λ z. absurd (omega arith); last = omega arith }
 
-  commands-more : (c : Command) → Permitted ρ t c → commands-of (after c t .contents) ≡ commands-of (t .contents) ++ c ∷ []
+  commands-more : (c : Command) → Permitted ρ t c → commands-of (next-state c t .contents) ≡ commands-of (t .contents) ++ c ∷ []
   unfolding operand-tests
   commands-more (pair p) h =
       rw (g .runs (h .group), g .cuts (omega arith), g .history (omega arith)) (simp (append-nil, map-append))
@@ -60,7 +60,7 @@ pub grouped : {ρ : Rules} {t : ReadState} → WellFormed ρ t → Grouped t
 grouped empty = record { runs = λ _. refl; cuts = λ _. refl; history = λ _. refl; last = zero-le }
 grouped {ρ} (more {t} w c h) = group-more ρ t (grouped w) c h
 
-pub body-more : {ρ : Rules} {t : ReadState} → WellFormed ρ t → (c : Command) → Permitted ρ t c → body (after c t .contents) ≡ body (t .contents) ++ command-bytes c
+pub body-more : {ρ : Rules} {t : ReadState} → WellFormed ρ t → (c : Command) → Permitted ρ t c → body (next-state c t .contents) ≡ body (t .contents) ++ command-bytes c
 body-more {ρ} {t} w c h = ap (each command-bytes) (commands-more ρ t (grouped w) c h) ∙ each-snoc command-bytes (commands-of (t .contents)) c
 
 -- ---- how many they are

@@ -10,7 +10,7 @@ use borrow.Author.Tests.{le-leb}
 use lib.ListN.{length, drop, length-append}
 use lib.Seq.{drop-append-seam}
 use lib.Dec.{leb}
-use Rattle.book.specs.Format.{Bytes, deck-rules, Contents, with-history, Allowed, refused, accepted, pick, Command, command-bytes, width, ReadState, over, after, command-at, read-from, read-commands, read-by, read, start}
+use Rattle.book.specs.Format.{Bytes, deck-rules, Contents, with-history, Allowed, refused, accepted, pick, Command, command-bytes, width, ReadState, over, next-state, command-at, read-from, read-commands, read-by, read, start}
 use Rattle.book.specs.Render.{render}
 use Rattle.book.specs.declared.Rules.{Rules}
 use Rattle.book.specs.declared.Cause.the-variants.{EndsEarly, BookTooLong}
@@ -34,7 +34,7 @@ read-on ρ (suc k) s bytes at t d w b e = go (read-on ρ k s bytes) (next ρ s b
   where
     go : ((at : ℕ) (t : ReadState) (d : Contents) → WellFormed ρ t → body (t .contents) ++ drop at s ≡ s → read-from ρ k s at t ≡ accepted d → Accepted ρ s d)
         → Goes ρ s at t (read-from ρ k s) d → Accepted ρ s d
-    go later (command c h x f) = later (at + width c) (after c t) d (more w c h) (rw (body-more w c h, append-assoc, ← x) b) f
+    go later (command c h x f) = later (at + width c) (next-state c t) d (more w c h) (rw (body-more w c h, append-assoc, ← x) b) f
     go later (end x q) = record {
       book = record { state = t; well-formed = w; contents = q };
       bytes = rw (← q, ← x) b;
@@ -42,7 +42,7 @@ read-on ρ (suc k) s bytes at t d w b e = go (read-on ρ k s bytes) (next ρ s b
 
 read-accepted : (ρ : Rules) (s : List ℕ) (d : Contents) → Bytes s → read-by ρ s ≡ accepted d → Accepted ρ s d
 unfolding read-by read-commands
-read-accepted ρ s d bytes e = go (leb (length s) (ρ .bytes)) e
+read-accepted ρ s d bytes e = go (leb (length s) (ρ .«length_limit»)) e
   where
     go : (b : Bool) → pick b (read-from ρ (suc (length s)) s 0 start) (refused BookTooLong 0) ≡ accepted d → Accepted ρ s d
     go true e = read-on ρ (suc (length s)) s bytes 0 start d empty refl e
@@ -62,7 +62,7 @@ module _ {ρ : Rules} where
   commands empty = 0
   commands (more w c h) = suc (commands w)
 
-  length-more : {t : ReadState} → WellFormed ρ t → (c : Command) → Permitted ρ t c → length (body (after c t .contents)) ≡ length (body (t .contents)) + width c
+  length-more : {t : ReadState} → WellFormed ρ t → (c : Command) → Permitted ρ t c → length (body (next-state c t .contents)) ≡ length (body (t .contents)) + width c
   length-more {t} w c h = ap length (body-more w c h) ∙ length-append (body (t .contents)) (command-bytes c)
 
   commands-few : {t : ReadState} (w : WellFormed ρ t) → commands w ≤ length (body (t .contents))
@@ -81,7 +81,7 @@ module _ {ρ : Rules} where
       let z : m + suc (commands w) ≡ suc m + commands w = omega arith in
       rw z (read-along w s (command-bytes c ++ rest) front (suc m) ∙ rw (command-read ρ s rest at t c h x, length-more w c h))
 
-  well-formed-read : {t : ReadState} → WellFormed ρ t → length (render (t .contents)) ≤ ρ .bytes → read-by ρ (render (t .contents)) ≡ accepted (t .contents)
+  well-formed-read : {t : ReadState} → WellFormed ρ t → length (render (t .contents)) ≤ ρ .«length_limit» → read-by ρ (render (t .contents)) ≡ accepted (t .contents)
   unfolding read-by read-commands read-from
   well-formed-read {t} w l =
       let s : List ℕ = render (t .contents) in
@@ -90,7 +90,7 @@ module _ {ρ : Rules} where
       let n : length s ≡ at + 1 = length-append (body (t .contents)) (0x45 ∷ []) in
       let z : suc (length s) ≡ suc m + commands w = omega (arith, commands-few w) in
       let e : command-at ρ s at t ≡ over (accepted (t .contents)) = end-read ρ s at t (drop-append-seam (body (t .contents)) (0x45 ∷ [])) in
-      rw (le-leb (length s) (ρ .bytes) l)
+      rw (le-leb (length s) (ρ .«length_limit») l)
       (ap (λ (k : ℕ). read-from ρ k s 0 start) z ∙ read-along w s (0x45 ∷ []) refl (suc m) ∙ rw e)
 
 pub read-render : (d : Contents) → IsBook deck-rules d → read (render d) ≡ accepted d

@@ -32,7 +32,7 @@ pub record Few (ρ : Rules) (d : Contents) : Type 0 where
   pub pairs : length (d .pairs) ≤ kind-limit * kind-limit
   pub next-pair : (p : Pair) → above-pair (d .pairs) p ≡ true → length (d .pairs) ≤ pair-rank p
   pub runs : length (d .runs) ≤ run-limit
-  pub steps : sum (lengths (d .runs)) ≤ ρ .steps
+  pub steps : sum (lengths (d .runs)) ≤ ρ .«step_limit»
   pub cuts : length (d .cuts) ≤ sum (lengths (d .runs)) * run-limit
   pub next-cut : (c : Cut) → above-cut (d .cuts) c ≡ true → length (d .cuts) ≤ cut-rank (lengths (d .runs)) c
 
@@ -108,7 +108,7 @@ module _ (ρ : Rules) (t : ReadState) (m : Few ρ (t .contents)) where
       }
 
   -- a run or a step more, where no cut has come
-  few-runs : (rs : List (List Step)) → t .contents .cuts ≡ [] → length rs ≤ run-limit → sum (lengths rs) ≤ ρ .steps → Few ρ (with-runs (t .contents) rs)
+  few-runs : (rs : List (List Step)) → t .contents .cuts ≡ [] → length rs ≤ run-limit → sum (lengths rs) ≤ ρ .«step_limit» → Few ρ (with-runs (t .contents) rs)
   few-runs rs e l n = record { pairs = m .pairs; next-pair = m .next-pair; runs = l; steps = n; cuts = rw e zero-le; next-cut = λ c u. rw e zero-le }
 
   few-more : Grouped t → (c : Command) → Permitted ρ t c → Few ρ (effect c (t .contents))
@@ -120,7 +120,7 @@ module _ (ρ : Rules) (t : ReadState) (m : Few ρ (t .contents)) where
   few-more g (step x) h =
       let rs = t .contents .runs in
       few-runs (add-last rs x) (g .cuts (h .group)) (rw (length-last rs x) (m .runs))
-      (omega (arith, ltb-true (sum (lengths rs)) (ρ .steps) (h .operands .1 .1 .1 .0), sum-last rs x (ltb-true 0 (length rs) (h .operands .0))))
+      (omega (arith, ltb-true (sum (lengths rs)) (ρ .«step_limit») (h .operands .1 .1 .1 .0), sum-last rs x (ltb-true 0 (length rs) (h .operands .0))))
   few-more g (cut c) h = few-cut c h
   few-more g (done r) h = record { pairs = m .pairs; next-pair = m .next-pair; runs = m .runs; steps = m .steps; cuts = m .cuts; next-cut = m .next-cut }
 
@@ -156,5 +156,5 @@ history-short (x ∷ k) ns w =
     )
 
 -- at most 9,761 bytes
-pub render-short : (ρ : Rules) (d : Contents) → ρ .steps ≤ step-limit → Few ρ d → Allowed (d .history) d → length (render d) ≤ length-limit
+pub render-short : (ρ : Rules) (d : Contents) → ρ .«step_limit» ≤ step-limit → Few ρ d → Allowed (d .history) d → length (render d) ≤ length-limit
 render-short ρ d l m w = omega (arith, length-render d, history-short (d .history) (lengths (d .runs)) w)

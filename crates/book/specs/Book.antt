@@ -92,8 +92,8 @@ contents-of b = contents (pairs-of (b .pairs)) (runs-of (b .lengths) (b .steps) 
 
 -- the tables have room for all that the rules allow
 pub record Fitting (ρ : Rules) : Type 0 where
-  pub steps : ρ .steps ≤ step-limit
-  pub bytes : ρ .bytes ≤ length-limit
+  pub steps : ρ .«step_limit» ≤ step-limit
+  pub bytes : ρ .«length_limit» ≤ length-limit
 
 -- n numbers, each 0 or 1
 pub record Flags (n : ℕ) (l : List ℕ) : Type 0 where

@@ -66,7 +66,7 @@ length-limit = 16384
 
 -- the rules of deck books
 abbrev pub deck-rules : Rules
-deck-rules = record { steps = step-limit; bytes = length-limit; cuts = true }
+deck-rules = record { «step_limit» = step-limit; «length_limit» = length-limit; «has_cuts» = true }
 
 abbrev pub pick : {A : Type 0} → Bool → A → A → A
 pick true a b = a
@@ -173,7 +173,7 @@ operand-tests ρ d (step x) =
     test (ltb 0 (length (d .runs))) OutOfOrder
     ∷ test (ltb (x .kind) kind-limit) WrongKind
     ∷ test (ltb (last (lengths (d .runs))) run-step-limit) RunTooLong
-    ∷ test (ltb (sum (lengths (d .runs))) (ρ .steps)) TooManySteps
+    ∷ test (ltb (sum (lengths (d .runs))) (ρ .«step_limit»)) TooManySteps
     ∷ []
 operand-tests ρ d (cut c) =
     test (ltb (c .of-run) (length (d .runs))) WrongRun
@@ -214,12 +214,12 @@ abbrev pub command-tests : Rules → List ℕ → ℕ → ReadState → Command 
 command-tests ρ s at t c = test (leb (width c) (length s - at)) EndsEarly ∷ test (leb (t .group) (group-of c)) OutOfOrder ∷ operand-tests ρ (t .contents) c
 
 -- the state behind a command
-abbrev pub after : Command → ReadState → ReadState
-after c t = record { group = group-of c; contents = effect c (t .contents) }
+abbrev pub next-state : Command → ReadState → ReadState
+next-state c t = record { group = group-of c; contents = effect c (t .contents) }
 
 -- a command behind which reading goes on
 abbrev pub obeyed : Command → ℕ → ReadState → Move
-obeyed c at t = on (at + width c) (after c t)
+obeyed c at t = on (at + width c) (next-state c t)
 
 -- the commands that the bytes at an offset are, by the first of them
 abbrev pub pair-at : List ℕ → ℕ → Command
@@ -252,7 +252,7 @@ command-at ρ s at t =
     (pick (eqb (byte s at) 0x43) (obey pair-at ρ s at t)
     (pick (eqb (byte s at) 0x52) (obey run-at ρ s at t)
     (pick (eqb (byte s at) 0x53) (obey step-at ρ s at t)
-    (pick (eqb (byte s at) 0x42) (check (ρ .cuts) NoCommand at (obey cut-at ρ s at t))
+    (pick (eqb (byte s at) 0x42) (check (ρ .«has_cuts») NoCommand at (obey cut-at ρ s at t))
     (pick (eqb (byte s at) 0x48) (obey done-at ρ s at t)
     (pick (eqb (byte s at) 0x45) (end-at ρ s at t)
     (over (refused NoCommand at))))))))
@@ -275,7 +275,7 @@ read-commands ρ s = read-from ρ (suc (length s)) s 0 start
 
 -- 1 comes first
 unfoldable pub read-by : Rules → List ℕ → Outcome
-read-by ρ s = pick (leb (length s) (ρ .bytes)) (read-commands ρ s) (refused BookTooLong 0)
+read-by ρ s = pick (leb (length s) (ρ .«length_limit»)) (read-commands ρ s) (refused BookTooLong 0)
 
 -- the format of deck books
 abbrev pub read : List ℕ → Outcome

@@ -83,11 +83,11 @@ pub fn number_of(cause: Cause) -> u8
 // What a dialect of the format sets.
 pub struct Rules {
     // The most steps in all.
-    pub steps: u16,
+    pub step_limit: u16,
     // The most bytes.
-    pub bytes: u16,
+    pub length_limit: u16,
     // Whether 42 is a command.
-    pub cuts: bool,
+    pub has_cuts: bool,
 }
 
 // A step: its kind and its position.

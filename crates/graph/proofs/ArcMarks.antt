@@ -18,7 +18,7 @@ use Rattle.theory.specs.Graph.{FirstOf, LastOf, ArcD, Arc, arc-I, arc-D, arc-F,
 use Rattle.theory.proofs.Steps.{dep-lt, dep-inside}
 use Rattle.book.specs.Format.{run-limit, step-limit}
 use Rattle.graph.specs.Marks.{Marks}
-use Rattle.graph.specs.Units.{Each}
+use Rattle.graph.specs.Units.{EachPlace}
 use Rattle.graph.specs.inner.Tables.{HistoryOf, Declared, NumberAt}
 use Rattle.graph.specs.inner.Arcs.{Gained, ArcOf, by-I, by-D, by-F, by-B, Below, ArcOfPlaces, ArcOfRuns, InRun, TablesOf, GainedBy, ArcRows, ArcInput, Rowed}
 use Rattle.graph.proofs.Counting.{low, clash, below-next, history-length, history-run, history-small}
@@ -236,7 +236,7 @@ module _ (history : List ℕ) (n : ℕ) (dep firsts lasts mask : List ℕ) (r q 
 
 -- ---- tables of places
 
-pub rowed : {E : ℕ → ℕ → ℕ → Type 0} (history : List ℕ) (n : ℕ) (t : List ℕ) → HistoryOf history n → ((o p f : ℕ) → E o p f → f < length (take n history)) → Each E 0 (length (take n history)) t → Rowed n t
+pub rowed : {E : ℕ → ℕ → ℕ → Type 0} (history : List ℕ) (n : ℕ) (t : List ℕ) → HistoryOf history n → ((o p f : ℕ) → E o p f → f < length (take n history)) → EachPlace E 0 (length (take n history)) t → Rowed n t
 rowed history n t hs f w = record { small = λ p o i ho. omega (arith, f o p (getD t (p * run-limit + o) 0) (w .at p o (omega arith) (rw (history-length hs) i) ho), history-length hs, hs .within) }
 
 module _ (history : List ℕ) (n : ℕ) (dep firsts lasts mask : List ℕ) (r : ℕ) (w : ArcInput history n dep firsts lasts mask r) where

@@ -15,7 +15,7 @@ use Rattle.theory.specs.inner.Places.{place-of}
 use Rattle.theory.proofs.Places.{place-of-spec, place-of-ordinal, ordinal-lt, ordinal-mono}
 use Rattle.theory.proofs.Steps.{unit-refl, unit-sym}
 use Rattle.book.specs.Format.{run-limit, run-step-limit, step-limit}
-use Rattle.graph.specs.Units.{units-size, Each, UnchangedFrom}
+use Rattle.graph.specs.Units.{units-size, EachPlace, UnchangedFrom}
 use Rattle.book.specs.Book.{run-cuts}
 use Rattle.graph.specs.inner.Tables.{places-size, HistoryOf, Numbering, Counts, CutsOf, EachBy, RowRoom, RowSet, by-flag, copied-row}
 use Rattle.graph.proofs.UnitSteps.{first-from, last-from}
@@ -51,27 +51,27 @@ module _ (cuts : List ℕ) (at : ℕ) (t : List ℕ) (p from : ℕ) (u : List �
 
 -- ---- a table filled row by row
 
-each-none : {E : ℕ → ℕ → ℕ → Type 0} (k : ℕ) (t : List ℕ) → Each E k k t
+each-none : {E : ℕ → ℕ → ℕ → Type 0} (k : ℕ) (t : List ℕ) → EachPlace E k k t
 each-none k t = record { at = λ p o a b. absurd (over p a b) }
   where
     over : (p : ℕ) → k ≤ p → p < k → ⊥
     over p a b = omega arith
 
-module _ {E : ℕ → ℕ → ℕ → Type 0} {a b p : ℕ} {t u : List ℕ} {v : ℕ → ℕ} (w : Each E a b t) (r : RowSet t u p v run-limit) (e : (o : ℕ) → o < run-limit → E o p (v o)) where
+module _ {E : ℕ → ℕ → ℕ → Type 0} {a b p : ℕ} {t u : List ℕ} {v : ℕ → ℕ} (w : EachPlace E a b t) (r : RowSet t u p v run-limit) (e : (o : ℕ) → o < run-limit → E o p (v o)) where
   other-row : (k o : ℕ) → a ≤ k → k < b → o < run-limit → k ≢ p → E o k (getD u (k * run-limit + o) 0)
   other-row k o ha hb ho n = rw (r .others k o ho n) (w .at k o ha hb ho)
 
   row-here : (k o : ℕ) → o < run-limit → k ≡ p → E o k (getD u (k * run-limit + o) 0)
   row-here k o ho z = rw (z, r .here o ho) (e o ho)
 
-  each-up : p ≡ b → Each E a (b + 1) u
+  each-up : p ≡ b → EachPlace E a (b + 1) u
   each-up z = record { at = λ k o ha hb ho. go k o ha ho (below-next k b hb) }
     where
       go : (k o : ℕ) → a ≤ k → o < run-limit → (k ≡ b) ⊎ (k < b) → E o k (getD u (k * run-limit + o) 0)
       go k o ha ho (inl y) = row-here k o ho (y ∙ sym z)
       go k o ha ho (inr l) = other-row k o ha l ho (λ y. omega arith)
 
-  each-down : 0 < a → p ≡ a - 1 → Each E (a - 1) b u
+  each-down : 0 < a → p ≡ a - 1 → EachPlace E (a - 1) b u
   each-down q z = record { at = λ k o ha hb ho. go k o ha hb ho (ℕ-discrete k p) }
     where
       go : (k o : ℕ) → a - 1 ≤ k → k < b → o < run-limit → Dec (k ≡ p) → E o k (getD u (k * run-limit + o) 0)

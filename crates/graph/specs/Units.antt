@@ -11,15 +11,15 @@ abbrev pub units-size : ℕ
 units-size = step-limit * run-limit
 
 -- for each place p of `from` up to `to` and each run o, at p * run-limit + o of t stands a place f with E o p f
-pub record Each (E : ℕ → ℕ → ℕ → Type 0) (from to : ℕ) (t : List ℕ) : Type 0 where
+pub record EachPlace (E : ℕ → ℕ → ℕ → Type 0) (from to : ℕ) (t : List ℕ) : Type 0 where
   pub at : (p o : ℕ) → from ≤ p → p < to → o < run-limit → E o p (getD t (p * run-limit + o) 0)
 
 -- at p * run-limit + o of t stands the first, or the last, place of p's unit as seen by run o
 abbrev pub Firsts : (ℕ → ℕ → ℕ → ℕ) → List ℕ → List ℕ → Type 0
-Firsts unit h = Each (FirstOf unit h) 0 (length h)
+Firsts unit h = EachPlace (FirstOf unit h) 0 (length h)
 
 abbrev pub Lasts : (ℕ → ℕ → ℕ → ℕ) → List ℕ → List ℕ → Type 0
-Lasts unit h = Each (LastOf unit h) 0 (length h)
+Lasts unit h = EachPlace (LastOf unit h) 0 (length h)
 
 -- from place n on u is as t
 pub record UnchangedFrom (n : ℕ) (t u : List ℕ) : Type 0 where

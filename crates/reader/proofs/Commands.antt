@@ -161,13 +161,13 @@ module _ (s : List ℕ) (at : ℕ) (p : Progress) (ls : List ℕ) where
             there (le-leb _ _ h0) (there (le-leb _ _ h1) (there (begun b u) (there (rw (← e) (lt-ltb _ _ h3)) (here (rw (last-read b p u ls (t .lengths-are) n h2 d) (le-ltb _ _ h)))))))
 
         module _ (h4 : n < run-step-limit) where
-          pub step-many : p .rules .steps ≤ p .total → Of step-at (Refused TooManySteps at)
+          pub step-many : p .rules .«step_limit» ≤ p .total → Of step-at (Refused TooManySteps at)
           unfolding operand-tests
           step-many h = turned (Lengths ls) step-at s at p TooManySteps (λ b u t.
               there (le-leb _ _ h0) (there (le-leb _ _ h1) (there (begun b u) (there (rw (← e) (lt-ltb _ _ h3)) (there (rw (last-read b p u ls (t .lengths-are) n h2 d) (lt-ltb _ _ h4))
               (here (rw (sum-is (so-far b p) (u .valid)) (le-ltb _ _ h))))))))
 
-          pub step-on : Inside s at p → p .total < p .rules .steps → (x : ℕ) → x ≡ getD s (at + 2) 0 * 256 + getD s (at + 3) 0 → x < position-limit
+          pub step-on : Inside s at p → p .total < p .rules .«step_limit» → (x : ℕ) → x ≡ getD s (at + 2) 0 * 256 + getD s (at + 3) 0 → x < position-limit
               → Of step-at (Step (record { kind = getD s (at + 1) 0; position = x }))
           unfolding operand-tests
           step-on z h x f l = taken (Lengths ls) step-at s at p (Step (record { kind = getD s (at + 1) 0; position = x }))
@@ -322,7 +322,7 @@ module _ (s : List ℕ) (at : ℕ) (p : Progress) (ls ns : List ℕ) where
     unfolding command-at
     command-step e w = by c lent-lengths w (λ t. rw (lt-ltb _ _ h, e))
 
-    pub command-cut : getD s at 0 ≡ 0x42 → p .rules .cuts ≡ true → Decides (Lengths ls) (obey cut-at) s at p c → Decides (Tables ls ns) command-at s at p c
+    pub command-cut : getD s at 0 ≡ 0x42 → p .rules .«has_cuts» ≡ true → Decides (Lengths ls) (obey cut-at) s at p c → Decides (Tables ls ns) command-at s at p c
     unfolding command-at
     command-cut e d w = by c lent-lengths w (λ t. rw (lt-ltb _ _ h, e, d))
 
@@ -334,7 +334,7 @@ module _ (s : List ℕ) (at : ℕ) (p : Progress) (ls ns : List ℕ) where
     unfolding command-at
     command-end e w = by c (λ b t. tt) w (λ t. rw (lt-ltb _ _ h, e))
 
-    pub command-foreign : getD s at 0 ≡ 0x42 → p .rules .cuts ≡ false → c ≡ Refused NoCommand at → Decides (Tables ls ns) command-at s at p c
+    pub command-foreign : getD s at 0 ≡ 0x42 → p .rules .«has_cuts» ≡ false → c ≡ Refused NoCommand at → Decides (Tables ls ns) command-at s at p c
     unfolding command-at
     command-foreign e f d = rw d (refusal NoCommand at (λ b u t. rw (lt-ltb _ _ h, e, f)))
 

@@ -34,14 +34,14 @@ refused-as cause place b e = record { outcome = refl; valid = rw e (represents-e
 pub record Rest (ρ : Rules) (s : List ℕ) (b : Book) (at : ℕ) (p : Progress) : Type 0 where
   pub rules : p .rules ≡ ρ
   pub short : length s ≤ length-limit
-  pub fitting : ρ .steps ≤ step-limit
+  pub fitting : ρ .«step_limit» ≤ step-limit
   pub underway : Underway b p
   pub inside : at ≤ length s
   pub fuel : ℕ
   pub enough : length s - at < fuel
   pub rest : read-from ρ fuel s at (read-state-of b p) ≡ read-commands ρ s
 
-pub begins : (ρ : Rules) (s : List ℕ) (b : Book) (p : Progress) → Fitting ρ → length s ≤ ρ .bytes → b ≡ empty-book → p ≡ at-start ρ → Rest (p .rules) s b 0 p
+pub begins : (ρ : Rules) (s : List ℕ) (b : Book) (p : Progress) → Fitting ρ → length s ≤ ρ .«length_limit» → b ≡ empty-book → p ≡ at-start ρ → Rest (p .rules) s b 0 p
 unfolding read-commands
 begins ρ s b p m l e f = rw (e, f) (record {
   rules = refl;
@@ -190,12 +190,12 @@ module _ (ρ : Rules) (s : List ℕ) (b : Book) (at : ℕ) (p : Progress) (c : P
     done-less = less (Done r) e (omega arith)
 
 -- the book's length is tested first
-pub long-refused : (ρ : Rules) (s : List ℕ) (r : Reading) → ρ .bytes < length s → ReadAs (refused BookTooLong 0) r → ReadAs (read-by ρ s) r
+pub long-refused : (ρ : Rules) (s : List ℕ) (r : Reading) → ρ .«length_limit» < length s → ReadAs (refused BookTooLong 0) r → ReadAs (read-by ρ s) r
 unfolding read-by
 long-refused ρ s r h g = rw (lt-leb _ _ h) g
 
 -- the loop ends; p₀ is the progress at its beginning
-module _ (ρ : Rules) (s : List ℕ) (b : Book) (at : ℕ) (p₀ p : Progress) (c : Parsed) (next : ℕ) (r : Reading) (l : length s ≤ ρ .bytes) (o : p₀ ≡ at-start ρ) (i : Rest (p₀ .rules) s b at p)
+module _ (ρ : Rules) (s : List ℕ) (b : Book) (at : ℕ) (p₀ p : Progress) (c : Parsed) (next : ℕ) (r : Reading) (l : length s ≤ ρ .«length_limit») (o : p₀ ≡ at-start ρ) (i : Rest (p₀ .rules) s b at p)
     (w : CommandReadAs (b .lengths) (b .counts) s at p c next) where
   whole : (o′ : Outcome) → command-at (p₀ .rules) s at (read-state-of b p) ≡ over o′ → o′ ≡ read-by ρ s
   unfolding read-by

@@ -195,7 +195,7 @@ fn step_at(s: &[u8], at: usize, p: Progress, lengths: &[u8; Book::RUNS]) -> Pars
     if wide(lengths[last]) >= Book::RUN_STEPS {
         return Parsed::Refused(Cause::RunTooLong, at);
     }
-    if p.total >= p.rules.steps as usize {
+    if p.total >= p.rules.step_limit as usize {
         return Parsed::Refused(Cause::TooManySteps, at);
     }
     Parsed::Step(Step {
@@ -292,7 +292,7 @@ fn command_at<'a>(
         return Parsed::Refused(Cause::EndsEarly, at);
     }
     let c = s[at];
-    let cuts = p.rules.cuts;
+    let has_cuts = p.rules.has_cuts;
     if c == 0x43 {
         return pair_at(s, at, p);
     }
@@ -303,7 +303,7 @@ fn command_at<'a>(
         return step_at(s, at, p, lengths);
     }
     if c == 0x42 {
-        if cuts {
+        if has_cuts {
             return cut_at(s, at, p, lengths);
         }
         return Parsed::Refused(Cause::NoCommand, at);
@@ -419,7 +419,7 @@ pub fn read_by(rules: Rules, s: &[u8]) -> Reading
     requires { ⌜ Fitting rules ⌝ }
     ensures { λ r. ⌜ ReadAs (read-by rules (now (s .entry))) r ⌝ }
 {
-    if s.len() > rules.bytes as usize {
+    if s.len() > rules.length_limit as usize {
         return refuse(Cause::BookTooLong, 0);
     }
     let mut book = Book::empty();
@@ -488,9 +488,9 @@ pub fn read(s: &[u8]) -> Reading
 {
     read_by(
         Rules {
-            steps: Book::STEPS as u16,
-            bytes: Book::LENGTH as u16,
-            cuts: true,
+            step_limit: Book::STEPS as u16,
+            length_limit: Book::LENGTH as u16,
+            has_cuts: true,
         },
         s,
     )

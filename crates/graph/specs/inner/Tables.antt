@@ -14,7 +14,7 @@ use Rattle.theory.specs.History.{count, run, ordinal}
 use Rattle.theory.specs.Deck.{Step, steps-conflict}
 use Rattle.theory.specs.inner.Places.{place-of}
 use Rattle.bits.specs.Table.{bit-at}
-use Rattle.graph.specs.Units.{Each}
+use Rattle.graph.specs.Units.{EachPlace}
 
 -- the size of a table of a place for each step, by run and ordinal
 abbrev pub places-size : ℕ
@@ -91,7 +91,7 @@ pub record CutsOf (unit : ℕ → ℕ → ℕ → ℕ) (cuts : List ℕ) : Type 
 
 -- each place of `from` up to `to` has its entries in t, for any units that the flags make
 pub record EachBy (E : (ℕ → ℕ → ℕ → ℕ) → List ℕ → ℕ → ℕ → ℕ → Type 0) (cuts h : List ℕ) (from to : ℕ) (t : List ℕ) : Type 0 where
-  pub of : (unit : ℕ → ℕ → ℕ → ℕ) → CutsOf unit cuts → Each (E unit h) from to t
+  pub of : (unit : ℕ → ℕ → ℕ → ℕ) → CutsOf unit cuts → EachPlace (E unit h) from to t
 
 -- where a row of flags, one for each run, and the rows of two places, stand
 pub record RowRoom (at p from : ℕ) : Type 0 where

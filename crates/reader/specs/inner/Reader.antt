@@ -68,7 +68,7 @@ pub record Tables (ls ns : List ℕ) (b : Book) : Type 0 where
 -- the runs so far are within their limit, and the tables have room for the steps that the rules allow
 pub record Limited (p : Progress) : Type 0 where
   pub few : p .declared ≤ run-limit
-  pub steps : p .rules .steps ≤ step-limit
+  pub steps : p .rules .«step_limit» ≤ step-limit
 
 -- a command begins at the offset
 pub record Inside (s : List ℕ) (at : ℕ) (p : Progress) : Type 0 where
