@@ -3,7 +3,7 @@ use Prim.Native.Nat.{ℕ, zero, suc, _<_, zero-le}
 use mathlib.Core.List.{List, []}
 use mathlib.Core.Path.{_≡_, refl}
 use native.Mathlib.Omega.{arith}
-use lib.ListN.{getD, replicate, length-replicate}
+use lib.ListN.{replicate, length-replicate}
 use Rattle.theory.proofs.Lists.{getD-zeros, sum-zeros}
 use Rattle.book.specs.Format.{run-limit, run-step-limit, step-limit, nothing}
 use Rattle.book.specs.Book.{book-of-tables, set-counts, pairs-size, cuts-size, code-limit, flagged, contents-of, Flags, Column, HistoryValid, Valid, Represents, empty-book}

@@ -3,7 +3,7 @@ use Prim.Native.Nat.{ℕ}
 use mathlib.Core.Path.{_≡_, refl}
 use mathlib.Core.Bool.{true, false}
 use mathlib.Core.List.{List, [], _∷_}
-use Rattle.book.specs.Format.{Move, Test, check, checks, over, refused}
+use Rattle.book.specs.Format.{Move, Test, checks, over, refused}
 use Rattle.book.specs.declared.Cause.{Cause}
 
 -- the first test that fails has this cause

@@ -13,7 +13,7 @@ use Rattle.classes.specs.Tested.{tested-numbers}
 use Rattle.classes.specs.declared.Tested.{Tested}
 use Rattle.writer.specs.Written.{written-numbers}
 use Rattle.writer.specs.declared.Written.{Written}
-use Rattle.gate.specs.Gate.{reply-numbers, opening-numbers, OpenedAs}
+use Rattle.gate.specs.Gate.{reply-numbers, OpenedAs}
 use Rattle.gate.specs.Replay.{played-numbers}
 use Rattle.gate.specs.declared.Opened.{Opened}
 use Rattle.gate.specs.declared.Reply.{Reply}

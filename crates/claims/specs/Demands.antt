@@ -25,8 +25,7 @@ use Rattle.judge.specs.declared.Verdict.the-variants.{Passed, Refused as NotJud
 use Rattle.classes.specs.Tested.{TestedAs}
 use Rattle.classes.specs.declared.Tested.{Tested}
 use Rattle.classes.specs.declared.Tested.the-variants.{Refused as NotTested}
-use Rattle.gate.specs.Plain.{Call, Answer as PlainAnswer, newly-opened, PlainCall}
-use Rattle.gate.specs.Plain.{refused as refused-by}
+use Rattle.gate.specs.Plain.{Call, Answer as PlainAnswer, newly-opened, PlainCall, refused as refused-by}
 use Rattle.gate.specs.Gate.{book-of, state-of, Sound, OpenedAs, CalledAs}
 use Rattle.gate.specs.Chain.{Chain}
 use Rattle.gate.specs.Demand.{Demand3}

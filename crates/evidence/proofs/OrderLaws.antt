@@ -23,8 +23,7 @@ use Rattle.theory.proofs.Places.{Compared, eq-cases, order-length, ordinal-lt, 
 use Rattle.theory.proofs.Steps.{at, Keeps, order-within, at-lt, at-same, same-at, same-sym, dep-lt, dep-inside, dep-at}
 use Rattle.theory.proofs.Decisions.{agrees-keeps}
 use Rattle.theory.proofs.Greedy.{taken-turn}
-use Rattle.bits.specs.Table.{row-bits, bit-at, Marked}
-use Rattle.bits.specs.Table.{Subset}
+use Rattle.bits.specs.Table.{row-bits, bit-at, Marked, Subset}
 use Rattle.bits.specs.declared.Found.{Found}
 use Rattle.bits.specs.declared.Found.the-variants.{At, Nothing}
 use Rattle.graph.proofs.Answered.{answer-yes, answer-no, false-true}

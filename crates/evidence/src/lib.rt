@@ -5,8 +5,6 @@ use bits::Table;
 use book::Book;
 use classes::Tested;
 ghost use Prim.Native.Nat.{_<_, _≤_};
-ghost use mathlib.Core.Path.{_≡_};
-ghost use lib.ListN.{length};
 ghost use Rattle.theory.specs.Relative.{RelativelySerialOrder};
 ghost use Rattle.theory.specs.Graph.{Arc, Cycle};
 ghost use Rattle.book.specs.Format.{step-limit};

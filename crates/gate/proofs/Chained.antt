@@ -4,10 +4,8 @@ use Prim.Native.Nat.{ℕ, suc}
 use mathlib.Core.Path.{_≡_, refl, ap, _∙_}
 use mathlib.Core.List.{List, [], _∷_, _++_}
 use lib.ListN.{length}
-use Rattle.book.specs.Format.{Bytes, Contents, accepted, read}
-use Rattle.book.specs.Format.{with-history}
-use Rattle.gate.specs.Plain.{Call, Answer, newly-opened, PlainCalls, PlainCall}
-use Rattle.gate.specs.Plain.{none as no-calls, next as next-call}
+use Rattle.book.specs.Format.{Bytes, Contents, accepted, read, with-history}
+use Rattle.gate.specs.Plain.{Call, Answer, newly-opened, PlainCalls, PlainCall, none as no-calls, next as next-call}
 use Rattle.gate.specs.Demand.{Demand3}
 use Rattle.gate.specs.Gate.{answer-of, book-of, state-of, opened-book, OpenedAs, CalledAs}
 use Rattle.gate.specs.Chain.{Chain, none, link}

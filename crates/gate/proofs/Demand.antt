@@ -7,20 +7,18 @@ use mathlib.Core.Logic.{_↔_}
 use mathlib.Core.List.{List}
 use lib.ListN.{length, take}
 use Rattle.theory.specs.Relative.{RelativelySerializable}
-use Rattle.book.specs.Format.{Bytes, Contents, accepted, read}
+use Rattle.book.specs.Format.{Bytes, Contents, accepted, read, with-history}
 use Rattle.book.specs.Meaning.{conflict-of, unit-of}
 use Rattle.book.specs.Numbers.{number}
 use Rattle.book.specs.declared.Cause.{Cause}
 use Rattle.book.specs.declared.Cause.the-variants.{Tangled}
-use Rattle.book.specs.Format.{with-history}
 use Rattle.book.specs.Render.{render}
 use Rattle.book.proofs.RoundTrip.{accepted-book, render-read, render-bytes, read-with-history}
 use Rattle.book.proofs.Histories.{history-book}
 use Rattle.judge.specs.Judged.{JudgedAs}
 use Rattle.judge.specs.Judge.{OutcomeJudged}
 use Rattle.judge.specs.declared.Verdict.{Verdict}
-use Rattle.judge.specs.declared.Verdict.the-variants.{Refused, Passed}
-use Rattle.judge.specs.declared.Verdict.the-variants.{Tangled as JudgeTangled}
+use Rattle.judge.specs.declared.Verdict.the-variants.{Refused, Passed, Tangled as JudgeTangled}
 use Rattle.gate.specs.Plain.{Call, step, withdraw, Answer, place, withdrawn, refused, State, newly-opened, In, Eligible, Refusal, not-declared, was-withdrawn, all-kept, IsTangled, PlainCall, step-refused, step-tangled, step-kept, withdraws, PlainCalls, none, next}
 use Rattle.gate.specs.Demand.{At, here, there, JudgePasses, Demand3}
 use Rattle.gate.proofs.PlainGate.{single, not-eligible, single-calls, Passing, passing-start, passing-call, in-insert, withdrawn-call, tangled-call}

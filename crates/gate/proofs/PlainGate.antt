@@ -18,11 +18,10 @@ use Rattle.theory.proofs.Places.{Compared, eq-cases}
 use Rattle.theory.proofs.Within.{tangled-stays}
 use Rattle.theory.proofs.Theorem.{dec-relatively-serializable}
 use Rattle.theory.proofs.DeckLaws.{lawful}
-use Rattle.book.specs.Format.{Contents, lengths, pick}
+use Rattle.book.specs.Format.{Contents, lengths, pick, with-history, Allowed}
 use Rattle.book.specs.Meaning.{conflict-of, unit-of}
 use Rattle.book.specs.Numbers.{number}
 use Rattle.book.specs.declared.Cause.{Cause}
-use Rattle.book.specs.Format.{with-history, Allowed}
 use Rattle.gate.specs.Plain.{Call, step, withdraw, Answer, withdrawn, refused, State, In, insert, Eligible, Refusal, not-declared, was-withdrawn, all-kept, IsTangled, PlainCall, step-refused, step-tangled, step-kept, withdraw-refused, withdraws, PlainCalls, none, next}
 
 -- ---- single-valued

@@ -10,12 +10,10 @@ use mir.Val.{Fits}
 use mir.Syntax.{w8, w64}
 use lib.ListN.{length, getD, set, replicate}
 use lib.Dec.{eqb}
-use Rattle.theory.specs.History.{count, suc-if}
 use Rattle.theory.specs.Relative.{RelativelySerializable}
-use Rattle.book.specs.Format.{run-limit, step-limit, Contents, Outcome, pick, done, effect}
-use Rattle.book.specs.Format.{refused as book-refused}
+use Rattle.book.specs.Format.{run-limit, step-limit, Contents, Outcome, pick, done, effect, refused as book-refused, with-history}
 use Rattle.book.specs.Meaning.{conflict-of, unit-of}
-use Rattle.book.specs.Book.{set-history, Represents, flagged, contents-of, Flags, Valid, empty-book, outcome-by, ReadAs}
+use Rattle.book.specs.Book.{set-history, Represents, flagged, contents-of, Flags, empty-book, outcome-by, ReadAs}
 use Rattle.book.specs.declared.Book.{Book}
 use Rattle.book.specs.declared.Cause.{Cause}
 use Rattle.book.specs.declared.Cause.the-variants.{Tangled}
@@ -25,11 +23,9 @@ use Rattle.book.specs.declared.Reading.{Reading}
 use Rattle.book.proofs.Groups.{count-flagged, flags-set}
 use Rattle.book.proofs.Books.{runs-are, length-is, count-is, history-long, done-below-steps, represents-done}
 use Rattle.book.proofs.Empty.{represents-empty, history-empty}
-use Rattle.book.specs.Format.{with-history}
 use Rattle.graph.specs.Answers.{Answers}
 use Rattle.graph.proofs.Answered.{refute}
-use Rattle.gate.specs.Plain.{step, withdraw, In, insert, Eligible, Refusal, IsTangled, place, PlainCall, step-refused, step-tangled, step-kept, withdraw-refused, withdraws}
-use Rattle.gate.specs.Plain.{not-declared as plain-not-declared, was-withdrawn as plain-was-withdrawn, all-kept as plain-all-kept}
+use Rattle.gate.specs.Plain.{step, withdraw, In, insert, Eligible, Refusal, IsTangled, place, PlainCall, step-refused, step-tangled, step-kept, withdraw-refused, withdraws, not-declared as plain-not-declared, was-withdrawn as plain-was-withdrawn, all-kept as plain-all-kept}
 use Rattle.gate.specs.Gate.{book-of, state-of, Sound, opening-answer, opened-book, OpenedAs, CalledAs}
 use Rattle.gate.specs.inner.Calls.{EligibleIn, RefusalIn, not-declared, was-withdrawn, all-kept, EligibilityIn, StepLeft}
 use Rattle.gate.specs.declared.Gate.{Gate}

@@ -10,8 +10,7 @@ use mir.Val.{Fits}
 use mir.Syntax.{w8}
 use lib.ListN.{length, getD, take, drop, set, length-set, length-append}
 use lib.Seq.{take-suc, take-all, set-at, take-at, length-take-le}
-use Rattle.book.specs.Format.{Contents, Outcome, pick, read}
-use Rattle.book.specs.Format.{refused as book-refused, accepted as book-accepted}
+use Rattle.book.specs.Format.{Contents, Outcome, pick, read, refused as book-refused, accepted as book-accepted}
 use Rattle.book.specs.declared.Cause.{Cause}
 use Rattle.book.specs.declared.Cause.the-variants.{NoCall, AnswersShort}
 use Rattle.book.specs.declared.Answer.the-variants.{Refused as BookRefused, Accepted as BookAccepted}

@@ -4,13 +4,12 @@ use Prim.Native.Nat.{ℕ}
 use mathlib.Core.Path.{_≡_, refl, ap, ap₂, sym, _∙_}
 use mathlib.Core.List.{List}
 use native.Mathlib.Omega.{arith}
-use Rattle.book.specs.Format.{Contents}
+use Rattle.book.specs.Format.{Contents, with-history}
 use Rattle.book.specs.Numbers.{number}
 use Rattle.book.specs.Book.{contents-of}
 use Rattle.book.specs.declared.Book.{Book}
 use Rattle.book.specs.declared.Cause.{Cause}
 use Rattle.book.proofs.Determined.{flags-same, determined}
-use Rattle.book.specs.Format.{with-history}
 use Rattle.gate.specs.Plain.{Call, Answer, refused, State, PlainCall, step-refused, step-tangled, step-kept, withdraw-refused, withdraws}
 use Rattle.gate.specs.Gate.{book-of, state-of, Sound, CalledAs}
 use Rattle.gate.specs.declared.Gate.{Gate}

@@ -4,10 +4,9 @@ use mathlib.Core.Path.{_≡_}
 use mathlib.Core.Logic.{_↔_}
 use mathlib.Core.List.{List, _∷_}
 use lib.ListN.{length, take}
-use Rattle.book.specs.Format.{Bytes, Contents, accepted, step-limit, read}
+use Rattle.book.specs.Format.{Bytes, Contents, accepted, step-limit, read, with-history}
 use Rattle.book.specs.Numbers.{number}
 use Rattle.book.specs.declared.Cause.the-variants.{Tangled}
-use Rattle.book.specs.Format.{with-history}
 use Rattle.book.specs.Render.{render}
 use Rattle.judge.specs.Judge.{BytesJudged}
 use Rattle.judge.specs.declared.Judgement.{Judgement}

@@ -1,13 +1,11 @@
 -- What the gate's record means, and what opening and the calls promise (document 01, "Plain gate").
 use mathlib.Core.Path.{_≡_}
 use mathlib.Core.List.{[]}
-use Rattle.book.specs.Format.{Contents, Outcome, run-limit, nothing}
-use Rattle.book.specs.Format.{refused as book-refused, accepted as book-accepted}
+use Rattle.book.specs.Format.{Contents, Outcome, run-limit, nothing, refused as book-refused, accepted as book-accepted, with-history}
 use Rattle.book.specs.Numbers.{number, Numbers, refused-with, value-of}
 use Rattle.book.specs.Book.{flagged, contents-of, Flags, Valid}
 use Rattle.book.specs.declared.Answer.{Answer as BookAnswer}
 use Rattle.book.specs.declared.Answer.the-variants.{Refused as BookRefused, Accepted as BookAccepted}
-use Rattle.book.specs.Format.{with-history}
 use Rattle.gate.specs.Plain.{Call, Answer, place, withdrawn, refused, State, newly-opened, PlainCall}
 use Rattle.gate.specs.declared.Reply.{Reply}
 use Rattle.gate.specs.declared.Reply.the-variants.{Place, Withdrawn, Refused}

@@ -6,8 +6,7 @@ use mathlib.Core.Bool.{Bool, _||_}
 use mathlib.Core.List.{List, [], _∷_, _++_}
 use lib.ListN.{length, take, drop}
 use lib.Dec.{eqb, leb}
-use Rattle.book.specs.Format.{Contents, Outcome, pick, read}
-use Rattle.book.specs.Format.{refused as book-refused, accepted as book-accepted}
+use Rattle.book.specs.Format.{Contents, Outcome, pick, read, refused as book-refused, accepted as book-accepted}
 use Rattle.book.specs.Numbers.{Numbers, refused-with, value-of}
 use Rattle.book.specs.declared.Cause.the-variants.{NoCall, AnswersShort}
 use Rattle.gate.specs.Plain.{Call, step, withdraw, Answer, place, withdrawn, refused, State, newly-opened, PlainCalls}

@@ -1,10 +1,8 @@
 // The gate: one record, updated by each call. Opening, step and withdraw, and the replay of a whole list of calls.
 ghost use mathlib.Core.Path.{_≡_};
 ghost use Prim.Native.Nat.{_≤_};
-ghost use mathlib.Core.List.{[]};
 ghost use Rattle.book.specs.Format.{run-limit, done, effect, read};
-ghost use Rattle.book.specs.Book.{Represents, contents-of, Valid};
-ghost use Rattle.book.specs.Format.{with-history};
+ghost use Rattle.book.specs.Book.{Represents, contents-of};
 ghost use Rattle.gate.specs.Plain.{step as step-call, withdraw as withdraw-call};
 ghost use Rattle.gate.specs.Gate.{Sound, OpenedAs, CalledAs};
 ghost use Rattle.gate.specs.Replay.{call-of, calls-of, bad-at, Replays};

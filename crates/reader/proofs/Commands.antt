@@ -3,7 +3,7 @@
 use Prim.Native.Nat.{ℕ, _+_, _*_, _-_, _/_, _%_, _≤_, _<_}
 use mathlib.Core.Path.{_≡_, refl, ap, sym, _∙_}
 use mathlib.Core.Bool.{true, false, not}
-use mathlib.Core.List.{List, [], _∷_}
+use mathlib.Core.List.{List, _∷_}
 use native.Mathlib.Omega.{arith}
 use borrow.Author.Tests.{lt-ltb, le-ltb, le-leb, lt-leb, eq-eqb, ne-eqb}
 use mir.Val.{Fits}
@@ -11,10 +11,9 @@ use mir.Syntax.{w64}
 use lib.ListN.{length, getD}
 use lib.Dec.{leb, ltb, eqb}
 use Rattle.theory.specs.History.{count}
-use Rattle.book.specs.Format.{kind-limit, position-limit, run-limit, run-step-limit, step-limit, ReadState, Move, Test, last, lengths, check, checks, above-pair, above-cut, over, refused, width, operand-tests, command-tests, obeyed, obey, pair-at, run-at, step-at, cut-at, done-at, end-at, command-at}
-use Rattle.book.specs.Format.{Command}
+use Rattle.book.specs.Format.{kind-limit, position-limit, run-limit, run-step-limit, ReadState, Move, Test, last, lengths, above-pair, above-cut, over, refused, operand-tests, command-tests, obeyed, obey, pair-at, run-at, step-at, cut-at, done-at, end-at, command-at, Command}
 use Rattle.book.specs.Book.{run-cuts, contents-of}
-use Rattle.reader.specs.inner.Reader.{so-far, read-state-of, Underway, Any, Lengths, Tables, Limited, Inside, move-of, width-of, Room, Decides, MayTake, CommandReadAs}
+use Rattle.reader.specs.inner.Reader.{so-far, read-state-of, Underway, Any, Lengths, Tables, Inside, move-of, width-of, Room, Decides, MayTake, CommandReadAs}
 use Rattle.book.specs.declared.Rules.{Rules}
 use Rattle.book.specs.declared.Cause.{Cause}
 use Rattle.book.specs.declared.Cause.the-variants.{NoCommand, EndsEarly, OutOfOrder, WrongKind, NotRising, WrongRun, TooManyRuns, RunTooLong, TooManySteps, WrongCut, NoStepLeft, BytesAfterEnd}

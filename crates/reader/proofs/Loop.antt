@@ -7,8 +7,7 @@ use borrow.Author.Tests.{le-leb, lt-leb}
 use mir.Val.{Fits}
 use mir.Syntax.{w8}
 use lib.ListN.{length, getD, set}
-use Rattle.book.specs.Format.{run-limit, step-limit, length-limit, Contents, Move, Outcome, on, over, refused, accepted, follow, width, group-of, effect, obeyed, ReadState, pair, run, step, cut, done, command-at, read-from, read-commands, read-by}
-use Rattle.book.specs.Format.{Command}
+use Rattle.book.specs.Format.{run-limit, step-limit, length-limit, Contents, Move, Outcome, on, over, refused, accepted, follow, width, group-of, effect, obeyed, ReadState, pair, run, step, cut, done, command-at, read-from, read-commands, read-by, Command}
 use Rattle.book.specs.Book.{pairs-size, cuts-size, pair-of, cut-of, as-step, set-runs, set-history, contents-of, empty-book, Fitting, Represents, ReadAs}
 use Rattle.book.specs.inner.Room.{Next, RoomStep, RoomDone}
 use Rattle.reader.specs.inner.Reader.{at-start, past-pair, past-run, past-step, past-cut, past-done, accepted-as, so-far, read-state-of, Underway, Tables, move-of, Room, width-of, MayTake, CommandReadAs}

@@ -7,9 +7,8 @@ use book::Rules;
 use book::Step;
 use book::wide;
 ghost use mathlib.Core.Path.{_≡_};
-ghost use Prim.Native.Nat.{_+_, _*_, _<_, _≤_};
-ghost use lib.ListN.{length};
-ghost use Rattle.book.specs.Format.{kind-limit, position-limit, run-limit, step-limit, length-limit, refused, obey, pair-at, run-at, step-at, cut-at, done-at, end-at, command-at, read-by, read};
+ghost use Prim.Native.Nat.{_+_, _*_, _<_};
+ghost use Rattle.book.specs.Format.{kind-limit, run-limit, step-limit, refused, obey, pair-at, run-at, step-at, cut-at, done-at, end-at, command-at, read-by, read};
 ghost use Rattle.book.specs.Book.{pairs-size, cuts-size, run-cuts, Fitting, ReadAs};
 ghost use Rattle.reader.specs.inner.Reader.{at-start, past-pair, past-run, past-step, past-cut, past-done, accepted-as, Limited, Inside, Any, Lengths, Tables, width-of, Decides, MayTake, CommandReadAs};
 

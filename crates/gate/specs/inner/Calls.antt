@@ -7,8 +7,7 @@ use Rattle.book.specs.Book.{Valid}
 use Rattle.book.specs.inner.Room.{RoomDone}
 use Rattle.book.specs.declared.Book.{Book}
 use Rattle.book.specs.declared.Cause.{Cause}
-use Rattle.book.specs.declared.Cause.the-variants.{NotDeclared, AllKept}
-use Rattle.book.specs.declared.Cause.the-variants.{Withdrawn as WasWithdrawn}
+use Rattle.book.specs.declared.Cause.the-variants.{NotDeclared, AllKept, Withdrawn as WasWithdrawn}
 use Rattle.gate.specs.Plain.{Call, Answer}
 use Rattle.gate.specs.Gate.{answer-of, Sound}
 use Rattle.gate.specs.Chain.{Chain}
