@@ -3,7 +3,7 @@ use Prim.Native.Nat.{ℕ}
 use lib.ListN.{length}
 use Rattle.book.specs.Format.{Outcome, refused, accepted}
 use Rattle.book.specs.declared.Cause.{Cause}
-use Rattle.book.specs.declared.Cause.the-variants.{BookTooLong, NoCommand, EndsEarly, OutOfOrder, WrongKind, NotRising, WrongRun, TooManyRuns, RunTooLong, TooManySteps, WrongCut, NoStepLeft, BytesAfterEnd, JudgeBufferShort, WriterBufferShort, NotDeclared, Withdrawn, AllKept, Tangled, NoCall, AnswersShort}
+use Rattle.book.specs.declared.Cause.the-variants.{BookTooLong, NoCommand, EndsEarly, OutOfOrder, WrongKind, NotRising, WrongRun, TooManyRuns, RunTooLong, TooManySteps, WrongCut, NoStepLeft, BytesAfterEnd, JudgeBufferShort, WriterBufferShort, NotDeclared, Withdrawn, AllKept, Tangled, NoCall, AnswersShort, Damaged}
 
 abbrev pub number : Cause → ℕ
 number BookTooLong = 1
@@ -27,6 +27,7 @@ number AllKept = 22
 number Tangled = 23
 number NoCall = 24
 number AnswersShort = 25
+number Damaged = 26
 
 -- an answer in numbers: the number of a refusal or 0, its place or 0, and what the call answers or 0
 pub record Numbers : Type 0 where

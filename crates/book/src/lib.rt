@@ -5,7 +5,8 @@ ghost use Rattle.book.specs.Numbers.{number};
 ghost use Rattle.book.specs.Format.{kind-limit, position-limit, run-limit, run-step-limit, step-limit, length-limit, with-history, Allowed};
 ghost use Rattle.book.specs.Book.{code-limit, step-coded, as-step, contents-of, empty-book, Valid, Represents};
 
-// Why something is turned away: one for each row of document 01's table, three for the limits of runs and steps, and two of the replay's own.
+// Why something is turned away: one for each row of document 01's table, three for the limits of runs and steps, two of the replay's own, and one for a
+// record that is no gate's.
 pub enum Cause {
     // A book over the length limit.
     BookTooLong,
@@ -49,6 +50,8 @@ pub enum Cause {
     NoCall,
     // Replay: the buffer of answers under two bytes a call.
     AnswersShort,
+    // Gate: the record is none that opening and the calls leave.
+    Damaged,
 }
 
 // Document 01's number for a cause.
@@ -77,6 +80,7 @@ pub fn number_of(cause: Cause) -> u8
         Cause::Tangled => 23,
         Cause::NoCall => 24,
         Cause::AnswersShort => 25,
+        Cause::Damaged => 26,
     }
 }
 

@@ -14,8 +14,8 @@ use Rattle.book.specs.declared.Book.{Book}
 use Rattle.book.specs.declared.Answer.{Answer}
 use Rattle.book.specs.declared.Answer.the-variants.{Refused as ReadRefused, Accepted}
 use Rattle.book.specs.declared.Reading.{Reading}
-use Rattle.graph.specs.Answers.{Answers}
-use Rattle.graph.proofs.Answered.{refute}
+use Rattle.theory.specs.Answers.{Answers}
+use Rattle.theory.proofs.Answered.{refute}
 use Rattle.graph.specs.Marks.{Marks}
 use Rattle.graph.specs.Units.{UnitTables}
 use Rattle.graph.proofs.BookTables.{book-history}

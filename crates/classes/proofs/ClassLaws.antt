@@ -11,7 +11,7 @@ use Rattle.theory.specs.Relative.{Depends, InUnit, Interleaved, RelativelySeria
 use Rattle.theory.specs.Graph.{FirstOf, LastOf}
 use Rattle.theory.proofs.Steps.{unit-refl, unit-sym, unit-trans}
 use Rattle.bits.specs.Table.{bit-at}
-use Rattle.graph.proofs.Answered.{answer-yes, answer-no}
+use Rattle.theory.proofs.Answered.{answer-yes, answer-no}
 use Rattle.graph.specs.Marks.{Marks}
 use Rattle.graph.specs.inner.Tables.{HistoryOf}
 use Rattle.graph.specs.Units.{Firsts, Lasts}

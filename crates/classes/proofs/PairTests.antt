@@ -9,9 +9,9 @@ use lib.Dec.{ltb, eqb}
 use borrow.Author.Tests.{ltb-true, lt-ltb, eqb-true, eq-eqb, not-true, not-false}
 use Rattle.bits.specs.Table.{bit-at}
 use Rattle.book.specs.Format.{run-limit, step-limit}
-use Rattle.graph.specs.Answers.{Answers}
+use Rattle.theory.specs.Answers.{Answers}
 use Rattle.graph.specs.inner.Tables.{NumberAt}
-use Rattle.graph.proofs.Answered.{answer-yes, answer-no, false-true, refute}
+use Rattle.theory.proofs.Answered.{answer-yes, answer-no, false-true, refute}
 use Rattle.classes.specs.inner.Tables.{InterleavedIn, LinkedIn, ViolatesIn}
 
 module _ (history firsts : List ℕ) (b c o : ℕ) (at-b : NumberAt history b run-limit o) where

@@ -16,10 +16,10 @@ use Rattle.theory.specs.History.{run, Serial}
 use Rattle.theory.proofs.Finite.{below-suc}
 use Rattle.bits.specs.Table.{bit-at, Marked}
 use Rattle.book.specs.Format.{run-limit}
-use Rattle.graph.specs.Answers.{Answers}
+use Rattle.theory.specs.Answers.{Answers}
 use Rattle.graph.specs.inner.Tables.{HistoryOf, NumberAt}
 use Rattle.graph.proofs.Counting.{history-length}
-use Rattle.graph.proofs.Answered.{answer-yes, answer-no, false-true}
+use Rattle.theory.proofs.Answered.{answer-yes, answer-no, false-true}
 use Rattle.classes.proofs.Collected.{Collected, collected-none, collected-again, collected-more}
 
 pub record TogetherUpTo (history seen : List ℕ) (p : ℕ) : Type 0 where

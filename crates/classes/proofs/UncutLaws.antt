@@ -12,7 +12,7 @@ use Rattle.book.specs.Book.{contents-of, empty-book, Valid}
 use Rattle.book.specs.declared.Book.{Book}
 use Rattle.book.proofs.Books.{valid-cuts}
 use Rattle.book.proofs.Empty.{represents-empty}
-use Rattle.graph.specs.Answers.{Answers}
+use Rattle.theory.specs.Answers.{Answers}
 use Rattle.classes.specs.inner.Books.{without-cuts}
 
 pub valid-uncut : (b u : Book) → Valid b → u ≡ without-cuts b → Valid u

@@ -12,7 +12,7 @@ ghost use Rattle.theory.specs.History.{Serial};
 ghost use Rattle.theory.specs.Relative.{ConflictSerializable, RelativelyAtomic, RelativelySerial};
 ghost use Rattle.book.specs.Book.{Valid, contents-of};
 ghost use Rattle.book.specs.Meaning.{conflict-of, unit-of};
-ghost use Rattle.graph.specs.Answers.{Answers};
+ghost use Rattle.theory.specs.Answers.{Answers};
 ghost use Rattle.graph.specs.inner.Tables.{HistoryOf};
 ghost use Rattle.graph.specs.inner.Arcs.{Rowed};
 ghost use Rattle.classes.specs.Tested.{TestedAs};

@@ -12,8 +12,8 @@ use Rattle.book.specs.Meaning.{conflict-of, unit-of}
 use Rattle.book.specs.Book.{contents-of, Valid, Represents}
 use Rattle.book.specs.declared.Book.{Book}
 use Rattle.book.proofs.Books.{history-long, count-is, length-is}
-use Rattle.graph.specs.Answers.{Answers}
-use Rattle.graph.proofs.Answered.{answer-no, refute}
+use Rattle.theory.specs.Answers.{Answers}
+use Rattle.theory.proofs.Answered.{answer-no, refute}
 use Rattle.graph.specs.Marks.{Marks}
 use Rattle.evidence.specs.inner.Tables.{EquivalentBy, CycleBy, ArcBy}
 

@@ -15,8 +15,8 @@ use Rattle.theory.specs.Graph.{Arc, Cycle}
 use Rattle.theory.proofs.Finite.{below-suc}
 use Rattle.theory.proofs.Decided.{arc-source, arc-target}
 use Rattle.bits.specs.Table.{row-bits, rows, bit-at, Marked}
-use Rattle.graph.specs.Answers.{Answers}
-use Rattle.graph.proofs.Answered.{answer-yes, answer-no, false-true}
+use Rattle.theory.specs.Answers.{Answers}
+use Rattle.theory.proofs.Answered.{answer-yes, answer-no, false-true}
 use Rattle.graph.specs.Marks.{Marks}
 use Rattle.classes.proofs.Collected.{Collected, collected-none, collected-more}
 use Rattle.evidence.specs.inner.Tables.{Follows, CycleBy, ArcBy}

@@ -26,7 +26,7 @@ use Rattle.theory.proofs.Greedy.{taken-turn}
 use Rattle.bits.specs.Table.{row-bits, bit-at, Marked, Subset}
 use Rattle.bits.specs.declared.Found.{Found}
 use Rattle.bits.specs.declared.Found.the-variants.{At, Nothing}
-use Rattle.graph.proofs.Answered.{answer-yes, answer-no, false-true}
+use Rattle.theory.proofs.Answered.{answer-yes, answer-no, false-true}
 use Rattle.graph.specs.Marks.{Marks}
 use Rattle.graph.specs.inner.Tables.{HistoryOf}
 use Rattle.judge.specs.inner.Turns.{TakenIn}

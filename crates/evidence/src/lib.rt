@@ -11,7 +11,7 @@ ghost use Rattle.book.specs.Format.{step-limit};
 ghost use Rattle.book.specs.Book.{Valid, contents-of};
 ghost use Rattle.book.specs.Meaning.{conflict-of, unit-of};
 ghost use Rattle.classes.specs.Tested.{TestedAs};
-ghost use Rattle.graph.specs.Answers.{Answers};
+ghost use Rattle.theory.specs.Answers.{Answers};
 ghost use Rattle.graph.specs.inner.Tables.{HistoryOf};
 ghost use Rattle.evidence.specs.inner.Tables.{NextStep, EquivalentBy, Follows, CycleBy, ArcBy};
 

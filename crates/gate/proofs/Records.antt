@@ -23,8 +23,8 @@ use Rattle.book.specs.declared.Reading.{Reading}
 use Rattle.book.proofs.Groups.{count-flagged, flags-set}
 use Rattle.book.proofs.Books.{runs-are, length-is, count-is, history-long, done-below-steps, represents-done}
 use Rattle.book.proofs.Empty.{represents-empty, history-empty}
-use Rattle.graph.specs.Answers.{Answers}
-use Rattle.graph.proofs.Answered.{refute}
+use Rattle.theory.specs.Answers.{Answers}
+use Rattle.theory.proofs.Answered.{refute}
 use Rattle.gate.specs.Plain.{step, withdraw, In, insert, Eligible, Refusal, IsTangled, place, PlainCall, step-refused, step-tangled, step-kept, withdraw-refused, withdraws, not-declared as plain-not-declared, was-withdrawn as plain-was-withdrawn, all-kept as plain-all-kept}
 use Rattle.gate.specs.Gate.{book-of, state-of, Sound, opening-answer, opened-book, OpenedAs, CalledAs}
 use Rattle.gate.specs.inner.Calls.{EligibleIn, RefusalIn, not-declared, was-withdrawn, all-kept, EligibilityIn, StepLeft}

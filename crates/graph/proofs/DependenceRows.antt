@@ -14,7 +14,7 @@ use Rattle.bits.specs.Table.{row-bits, rows, bit-at, union, Marked, Replaced}
 use Rattle.bits.proofs.Store.{bit-at-lt, zeros-bit}
 use Rattle.theory.specs.Relative.{DirectlyDepends, Depends, direct, through}
 use Rattle.theory.proofs.Steps.{dep-inside}
-use Rattle.graph.specs.Answers.{Answers}
+use Rattle.theory.specs.Answers.{Answers}
 use Rattle.graph.specs.Marks.{Marks}
 use Rattle.graph.specs.Dependence.{DependsSoFar, Links, StepsRead, StepRead}
 use Rattle.graph.specs.inner.Tables.{Fresh}

@@ -1,5 +1,4 @@
 -- The laws that the proofs of `graph` and of its users cite.
---   Answered        the answers yes and no
 --   Counting        what a history's numbers are, what a flag chooses
 --   Flags           flags and the list of their indices; the test of a conflict
 --   Steps           the steps of a book by place; the test of a link
@@ -11,7 +10,6 @@
 --   ArcMarks        the arc rows, by run and place
 -- `dependences`: DependenceRows, with the links that BookTables reads off the book. `units`: Numbering, UnitRows.
 -- `arcs`: ArcMarks over both, with UnitSteps.
-pub mod Answered
 pub mod Flags
 pub mod Counting
 pub mod Steps

@@ -19,9 +19,9 @@ use Rattle.book.specs.declared.Step.{Step as StepValue}
 use Rattle.theory.specs.History.{count, run, ordinal}
 use Rattle.theory.proofs.Lists.{count-take-lt, count-take-ne, count-take-le, sum-take, sum-take-le, all-set}
 use Rattle.theory.specs.Deck.{Step, steps-conflict}
-use Rattle.graph.specs.Answers.{Answers}
+use Rattle.theory.specs.Answers.{Answers}
 use Rattle.graph.specs.inner.Tables.{Small, HistoryOf, Starts, StepsRoom, StepsByPlace, step-in, StepAt, Link}
-use Rattle.graph.proofs.Answered.{answer-yes}
+use Rattle.theory.proofs.Answered.{answer-yes}
 use Rattle.graph.proofs.Counting.{low, below-next, history-length, history-run}
 
 -- ---- where each run's steps begin

@@ -15,7 +15,7 @@ ghost use Rattle.theory.specs.Lists.{sum};
 ghost use Rattle.book.specs.Format.{kind-limit, run-limit, step-limit};
 ghost use Rattle.book.specs.Book.{code-limit, as-step, pairs-of, Valid, contents-of};
 ghost use Rattle.book.specs.Meaning.{conflict-of, unit-of};
-ghost use Rattle.graph.specs.Answers.{Answers};
+ghost use Rattle.theory.specs.Answers.{Answers};
 ghost use Rattle.graph.specs.Marks.{Marks};
 ghost use Rattle.graph.specs.Units.{units-size, UnchangedFrom, UnitTables};
 ghost use Rattle.graph.specs.Dependence.{StepsRead, StepRead};

@@ -6,7 +6,7 @@ use lib.Dec.{eqb}
 use Rattle.theory.specs.Relative.{RelativelySerializable}
 use Rattle.theory.specs.Graph.{Arc}
 use Rattle.theory.proofs.DeckLaws.{lawful}
-use Rattle.graph.specs.Answers.{Answers}
+use Rattle.theory.specs.Answers.{Answers}
 use Rattle.graph.specs.Marks.{Marks}
 use Rattle.graph.proofs.BookTables.{book-history}
 use Rattle.book.specs.Meaning.{conflict-of, unit-of}

@@ -17,8 +17,8 @@ use Rattle.theory.proofs.Finite.{below-suc}
 use Rattle.bits.specs.Table.{row-bits, bit-at, Subset, Marked}
 use Rattle.bits.specs.declared.Found.the-variants.{At, Nothing}
 use Rattle.bits.proofs.Store.{bit-at-lt, zeros-bit}
-use Rattle.graph.specs.Answers.{Answers}
-use Rattle.graph.proofs.Answered.{answer-no, refute}
+use Rattle.theory.specs.Answers.{Answers}
+use Rattle.theory.proofs.Answered.{answer-no, refute}
 use Rattle.graph.proofs.Counting.{clash}
 use Rattle.judge.specs.inner.Turns.{InSet, ReadyIn, NoneBelow, NoneReady, FirstReady, AllTaken, FirstUntaken, TakenIn}
 

@@ -20,7 +20,7 @@ use Rattle.theory.proofs.Cycles.{stuck-cycle}
 use Rattle.theory.proofs.Theorem.{whole-greedy}
 use Rattle.buffer.specs.Put.{Put}
 use Rattle.book.specs.Format.{step-limit}
-use Rattle.graph.specs.Answers.{Answers}
+use Rattle.theory.specs.Answers.{Answers}
 use Rattle.graph.specs.Marks.{Marks}
 use Rattle.graph.specs.inner.Tables.{HistoryOf}
 use Rattle.graph.proofs.Counting.{history-length}

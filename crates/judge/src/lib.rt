@@ -13,7 +13,7 @@ ghost use Rattle.bits.specs.Table.{row-bits};
 ghost use Rattle.book.specs.Format.{step-limit};
 ghost use Rattle.book.specs.Meaning.{conflict-of, unit-of};
 ghost use Rattle.book.specs.Book.{contents-of, Valid};
-ghost use Rattle.graph.specs.Answers.{Answers};
+ghost use Rattle.theory.specs.Answers.{Answers};
 ghost use Rattle.graph.specs.inner.Tables.{HistoryOf};
 ghost use Rattle.judge.specs.Judged.{JudgedAs};
 ghost use Rattle.judge.specs.Judge.{BytesJudged};

@@ -20,8 +20,8 @@ use Rattle.book.specs.declared.Answer.{Answer}
 use Rattle.book.specs.declared.Answer.the-variants.{Refused as ReadRefused, Accepted}
 use Rattle.book.specs.declared.Reading.{Reading}
 use Rattle.book.proofs.Books.{done-within, history-long}
-use Rattle.graph.specs.Answers.{Answers}
-use Rattle.graph.proofs.Answered.{refute}
+use Rattle.theory.specs.Answers.{Answers}
+use Rattle.theory.proofs.Answered.{refute}
 use Rattle.judge.specs.Judged.{JudgedAs}
 use Rattle.judge.specs.Front.{first-bytes, front-of}
 use Rattle.judge.specs.declared.Verdict.{Verdict}

@@ -1,5 +1,6 @@
 -- The theorems on relative serializability, from the bottom up.
 --   Lists      laws of lists of numbers: counts, sums, zeros, stores
+--   Answered   the answers yes and no
 --   Places     the place of a step; a list with the same counts is as long
 --   Finite     search below a bound; decisions put together from decisions
 --   Steps      the steps of one list in another: places, conflicts, dependences, units
@@ -18,6 +19,7 @@
 -- Theorem 1: Greedy's turns end with every place taken or with none ready (`Theorem.judged`). In the first case Sorted makes their order a
 -- relatively serial one that agrees (`whole-greedy`); in the second Cycles finds a cycle, and Forward shows that there is no such order.
 pub mod Lists
+pub mod Answered
 pub mod Places
 pub mod Finite
 pub mod Steps

@@ -1,6 +1,6 @@
 -- The definitions of relative serializability. History: places, orders, serial. Relative: conflicts, dependence, units, classes.
 -- Graph: arcs, cycles, the order of smallest ready places. Deck: conflict and unit as a deck book gives them. Rows: the twelve histories.
--- Lists: sums. inner is no part of a statement.
+-- Lists: sums. Answers: a test's answer. inner is no part of a statement.
 --
 -- The letters:
 --   h        a history                    l, m     other lists of run numbers: an order of h, what is kept or taken of it
@@ -13,6 +13,7 @@
 --   c        a cycle, where it is a list
 -- In Deck c is a cut, a and b are kinds, p and q positions, and p the first of a list of pairs. In Rows r, w and a are kinds of step, y and n answers.
 pub mod Lists
+pub mod Answers
 pub mod History
 pub mod Relative
 pub mod Graph

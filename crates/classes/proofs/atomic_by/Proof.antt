@@ -4,7 +4,7 @@ use Prim.Native.Nat.{_-_}
 use native.Mathlib.Omega.{arith}
 use borrow.Author.Tests.{not-true, not-false}
 use borrow.Author.Needs.{needs}
-use Rattle.graph.proofs.Answered.{refute}
+use Rattle.theory.proofs.Answered.{refute}
 use Rattle.classes.specs.inner.Tables.{InterleavedIn}
 use Rattle.classes.proofs.Searched.{NonePair, no-pair-yet, no-pair-more}
 use Rattle.classes.proofs.ClassLaws.{atomic-yes, atomic-no}

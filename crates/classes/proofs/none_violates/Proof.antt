@@ -2,7 +2,7 @@
 use Prim.Native.Nat.{_-_}
 use native.Mathlib.Omega.{arith}
 use borrow.Author.Needs.{needs}
-use Rattle.graph.proofs.Answered.{answer-yes, answer-no, refute}
+use Rattle.theory.proofs.Answered.{answer-yes, answer-no, refute}
 use Rattle.judge.specs.inner.Turns.{NoneBelow}
 use Rattle.classes.specs.inner.Tables.{ViolatesIn}
 use Rattle.judge.proofs.ReadyPlaces.{none-yet, none-more}

@@ -8,7 +8,7 @@ use lib.ListN.{getD, take}
 use Rattle.theory.specs.Relative.{Depends, RelativelyAtomic, RelativelySerial}
 use Rattle.bits.specs.Table.{bit-at}
 use Rattle.book.specs.Format.{run-limit}
-use Rattle.graph.specs.Answers.{Answers}
+use Rattle.theory.specs.Answers.{Answers}
 use Rattle.graph.specs.Marks.{Marks}
 use Rattle.graph.specs.Units.{Firsts, Lasts}
 

@@ -5,7 +5,7 @@ use native.Mathlib.Omega.{arith}
 use borrow.Author.Tests.{not-true, not-false}
 use borrow.Author.Needs.{needs}
 use Rattle.bits.specs.Table.{row-words}
-use Rattle.graph.proofs.Answered.{refute}
+use Rattle.theory.proofs.Answered.{refute}
 use Rattle.evidence.proofs.CycleLaws.{WalkedUpTo, too-short, too-long, last-beyond, walked-none, walked-all, not-followed, walked-more}
 use Rattle.evidence.proofs.cycle_by.Statement.{statement}
 use Rattle.evidence.proofs.cycle_by.Tie as tie

@@ -10,7 +10,7 @@ use Rattle.theory.specs.Graph.{Arc, Cycle}
 use Rattle.bits.specs.Table.{bit-at}
 use Rattle.bits.specs.declared.Found.{Found}
 use Rattle.bits.specs.declared.Found.the-variants.{At, Nothing}
-use Rattle.graph.specs.Answers.{Answers}
+use Rattle.theory.specs.Answers.{Answers}
 use Rattle.graph.specs.Marks.{Marks}
 
 -- p is the first place of run r that is not taken

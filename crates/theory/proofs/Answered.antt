@@ -1,7 +1,7 @@
 -- The answers yes and no.
 use mathlib.Core.Path.{_≡_, refl, sym, _∙_}
 use mathlib.Core.Bool.{Bool, true, false, true≢false}
-use Rattle.graph.specs.Answers.{Answers}
+use Rattle.theory.specs.Answers.{Answers}
 
 pub false-true : false ≡ true → ⊥
 false-true e = true≢false (sym e)
