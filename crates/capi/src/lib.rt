@@ -19,7 +19,7 @@ ghost use Rattle.gate.specs.Plain.{step as step-call, withdraw as withdraw-call
 ghost use Rattle.classes.specs.Tested.{tested-numbers};
 ghost use Rattle.writer.specs.Written.{written-numbers};
 ghost use Rattle.judge.specs.Judged.{verdict-numbers};
-ghost use Rattle.gate.specs.Gate.{reply-numbers, Sound};
+ghost use Rattle.gate.specs.Gate.{reply-numbers};
 ghost use Rattle.gate.specs.Replay.{played-numbers};
 ghost use Rattle.capi.specs.Numbers.{answered, judged};
 ghost use Rattle.capi.specs.Calls.{ReadCall, TestCall, JudgeCall, WriteCall, OpenCall, GateCall, ReplayCall};
@@ -244,7 +244,6 @@ pub extern "C" fn deck_open(s: &[u8]) -> OpenedGate
 
 #[no_mangle]
 pub extern "C" fn deck_step(g: &mut Gate, run: u8) -> Answered
-    requires { ⌜ Sound (now g) ⌝ }
     ensures { λ r. ⌜ GateCall (step-call run) (now (g .entry)) (now (g .exit)) r ⌝ }
 {
     let reply = gate::step(g, run);
@@ -253,7 +252,6 @@ pub extern "C" fn deck_step(g: &mut Gate, run: u8) -> Answered
 
 #[no_mangle]
 pub extern "C" fn deck_withdraw(g: &mut Gate, run: u8) -> Answered
-    requires { ⌜ Sound (now g) ⌝ }
     ensures { λ r. ⌜ GateCall (withdraw-call run) (now (g .entry)) (now (g .exit)) r ⌝ }
 {
     let reply = gate::withdraw(g, run);

@@ -22,6 +22,7 @@ use Rattle.gate.specs.inner.Calls.{Low, BytesOf}
 use Rattle.gate.specs.declared.Gate.{Gate}
 use Rattle.gate.specs.declared.Reply.{Reply}
 use Rattle.gate.specs.declared.Reply.the-variants.{Place, Withdrawn, Refused}
+use Rattle.gate.proofs.Records.{sound-call}
 
 pub length-calls : (bs : List ℕ) → length (calls-of bs) ≡ length bs / 2
 length-calls [] = omega arith
@@ -118,7 +119,7 @@ place-is p (withdraw-refused w) e = let z : _≡_ {A = ℕ} 0 1 = cc in absurd (
 place-is p (withdraws o) e = let z : _≡_ {A = ℕ} 0 1 = cc in absurd (omega arith)
 
 pub answer-low : (g h : Gate) (x : Call) (a : Reply) → Sound g → CalledAs g x a h → Low a
-answer-low g h x a y w = record { place-low = λ p e. omega (arith, place-is p (w .plain) (ap answer-of e), history-long (g .book) (y .valid), done-few (g .book) (y .valid), y .valid .runs .few-steps) }
+answer-low g h x a y w = record { place-low = λ p e. omega (arith, place-is p (sound-call y w .plain) (ap answer-of e), history-long (g .book) (y .valid), done-few (g .book) (y .valid), y .valid .runs .few-steps) }
 
 -- ---- many answers
 

@@ -7,28 +7,31 @@ use lib.ListN.{length}
 use Rattle.book.specs.Format.{Bytes, Contents, accepted, read, with-history}
 use Rattle.gate.specs.Plain.{Call, Answer, newly-opened, PlainCalls, PlainCall, none as no-calls, next as next-call}
 use Rattle.gate.specs.Demand.{Demand3}
-use Rattle.gate.specs.Gate.{answer-of, book-of, state-of, opened-book, OpenedAs, CalledAs}
+use Rattle.gate.specs.Gate.{answer-of, book-of, state-of, opened-book, Sound, OpenedAs, CalledAs}
 use Rattle.gate.specs.Chain.{Chain, none, link}
 use Rattle.gate.specs.declared.Gate.{Gate}
 use Rattle.gate.specs.declared.Opened.{Opened}
 use Rattle.gate.specs.declared.Reply.{Reply}
 use Rattle.gate.proofs.PlainGate.{call-history}
+use Rattle.gate.proofs.Records.{sound-call}
 use Rattle.gate.proofs.Demand.{plain-demand}
 
-chain-plain : (c : Contents) {g h : Gate} {xs : List Call} {bs : List Answer} → Chain g xs bs h → book-of g ≡ with-history c [] → PlainCalls c (state-of g) xs bs (state-of h)
-chain-plain c none e = no-calls
-chain-plain c {g} (link {h = h} {x = x} a w k) e =
-    let p : PlainCall (with-history c []) (state-of g) x (answer-of a) (state-of h) = rw e at (w .plain) in
-    next-call (call-history c [] p) (chain-plain c k (w .book ∙ e))
+-- from a sound record on, each call is the plain gate's and leaves a sound record
+chain-plain : (c : Contents) {g h : Gate} {xs : List Call} {bs : List Answer} → Chain g xs bs h → Sound g → book-of g ≡ with-history c [] → PlainCalls c (state-of g) xs bs (state-of h)
+chain-plain c none y e = no-calls
+chain-plain c {g} (link {h = h} {x = x} a w k) y e =
+    let v = sound-call y w in
+    let p : PlainCall (with-history c []) (state-of g) x (answer-of a) (state-of h) = rw e at (v .plain) in
+    next-call (call-history c [] p) (chain-plain c k (v .sound) (v .book ∙ e))
 
-pub chain-book : {g h : Gate} {xs : List Call} {bs : List Answer} → Chain g xs bs h → book-of h ≡ book-of g
-chain-book none = refl
-chain-book (link a w k) = chain-book k ∙ w .book
+pub chain-book : {g h : Gate} {xs : List Call} {bs : List Answer} → Chain g xs bs h → Sound g → book-of h ≡ book-of g
+chain-book none y = refl
+chain-book (link a w k) y = let v = sound-call y w in chain-book k (v .sound) ∙ v .book
 
 -- from the opening on
 pub opened-plain : (s : List ℕ) (c : Contents) (o : Opened) (calls : List Call) (answers : List Answer) (g : Gate) → read s ≡ accepted c → OpenedAs (read s) o
     → Chain (o .gate) calls answers g → PlainCalls c newly-opened calls answers (state-of g)
-opened-plain s c o calls answers g e w k = rw (← w .state) (chain-plain c k (w .book ∙ ap opened-book e))
+opened-plain s c o calls answers g e w k = rw (← w .state) (chain-plain c k (w .sound) (w .book ∙ ap opened-book e))
 
 pub demand-3 : (s : List ℕ) (c : Contents) → Bytes s → read s ≡ accepted c → (o : Opened) → OpenedAs (read s) o
     → (calls : List Call) (answers : List Answer) (g : Gate) → Chain (o .gate) calls answers g → Demand3 s c calls answers (state-of g)

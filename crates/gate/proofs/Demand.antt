@@ -1,13 +1,20 @@
 -- Demand 3 holds of whatever answers and state the plain gate's rules give a list of calls.
-use Prim.Native.Nat.{ℕ, _<_}
+use Prim.Native.Nat.{ℕ, _≤_, _<_, zero-le}
 use native.Mathlib.Nat.{not-suc-le-zero, le-of-suc-le-suc}
 use native.Mathlib.Omega.{arith}
 use mathlib.Core.Path.{_≡_, refl, ap}
-use mathlib.Core.Logic.{_↔_}
-use mathlib.Core.List.{List}
-use lib.ListN.{length, take}
+use mathlib.Core.Logic.{_↔_, inl, inr}
+use mathlib.Core.List.{List, [], _∷_, _++_}
+use lib.ListN.{length, getD, take}
+use lib.Dec.{eqb}
+use Rattle.theory.specs.History.{count, suc-if}
 use Rattle.theory.specs.Relative.{RelativelySerializable}
-use Rattle.book.specs.Format.{Bytes, Contents, accepted, read, with-history}
+use Rattle.theory.proofs.Lists.{count-snoc}
+use Rattle.theory.proofs.Places.{Compared, eq-cases}
+use Rattle.theory.proofs.Within.{tangled-stays}
+use Rattle.theory.proofs.Theorem.{dec-relatively-serializable}
+use Rattle.theory.proofs.DeckLaws.{lawful}
+use Rattle.book.specs.Format.{Bytes, Contents, lengths, accepted, read, with-history, Allowed}
 use Rattle.book.specs.Meaning.{conflict-of, unit-of}
 use Rattle.book.specs.Numbers.{number}
 use Rattle.book.specs.declared.Cause.{Cause}
@@ -19,9 +26,27 @@ use Rattle.judge.specs.Judged.{JudgedAs}
 use Rattle.judge.specs.Judge.{OutcomeJudged}
 use Rattle.judge.specs.declared.Verdict.{Verdict}
 use Rattle.judge.specs.declared.Verdict.the-variants.{Refused, Passed, Tangled as JudgeTangled}
-use Rattle.gate.specs.Plain.{Call, step, withdraw, Answer, place, withdrawn, refused, State, newly-opened, In, Eligible, Refusal, not-declared, was-withdrawn, all-kept, IsTangled, PlainCall, step-refused, step-tangled, step-kept, withdraws, PlainCalls, none, next}
+use Rattle.gate.specs.Plain.{Call, step, withdraw, Answer, place, withdrawn, refused, State, newly-opened, In, Eligible, Refusal, not-declared, was-withdrawn, all-kept, PlainCall, step-refused, step-tangled, step-kept, withdraw-refused, withdraws, PlainCalls, none, next}
 use Rattle.gate.specs.Demand.{At, here, there, JudgePasses, Demand3}
-use Rattle.gate.proofs.PlainGate.{single, not-eligible, single-calls, Passing, passing-start, passing-call, in-insert, withdrawn-call, tangled-call}
+use Rattle.gate.proofs.PlainGate.{single, not-eligible, single-calls, in-insert, withdrawn-call}
+
+-- ---- the kept list is one that the runs allow, and it passes
+
+record Passing (c : Contents) (k : List ℕ) : Type 0 where
+  pub allowed : Allowed k c
+  pub passed : RelativelySerializable (conflict-of c) (unit-of c) k
+
+passing-start : (c : Contents) → Passing c []
+passing-start c = record {
+  allowed = λ r. zero-le;
+  passed = record {
+    order = [];
+    evidence = record {
+      equivalent = record { order = λ r. refl; agrees = λ p q a b k m i j s t d. absurd (not-suc-le-zero m) };
+      serial = λ a b d e t i u. absurd (not-suc-le-zero i);
+    };
+  };
+}
 
 -- ---- the judge passes what is allowed and relatively serializable
 
@@ -45,6 +70,44 @@ judge-passes s c bytes e k w = record {
     reads = read-with-history s c k bytes e (w .allowed)
 
 module _ (c : Contents) where
+  allowed-more : (k : List ℕ) (r : ℕ) → Allowed k c → count k r < getD (lengths (c .runs)) r 0 → Allowed (k ++ r ∷ []) c
+  allowed-more k r w h x = rw (count-snoc k r x) (go (eq-cases r x))
+    where
+      go : Compared r x → suc-if (eqb r x) (count k x) ≤ getD (lengths (c .runs)) x 0
+      go (inl e) = rw (e .0, ← e .1) h
+      go (inr e) = rw (e .0) (w x)
+
+  not-tangled : (k : List ℕ) → ¬ ¬ RelativelySerializable (conflict-of c) (unit-of c) k → RelativelySerializable (conflict-of c) (unit-of c) k
+  not-tangled k n = go (dec-relatively-serializable (conflict-of c) (unit-of c) k (lawful (c .pairs) (c .runs)))
+    where
+      go : Dec (RelativelySerializable (conflict-of c) (unit-of c) k) → RelativelySerializable (conflict-of c) (unit-of c) k
+      go (yes s) = s
+      go (no t) = absurd (n t)
+
+  passing-call : {g h : State} {x : Call} {a : Answer} → PlainCall c g x a h → Passing c (g .kept) → Passing c (h .kept)
+  passing-call (step-refused p) w = w
+  passing-call (step-tangled e n) w = w
+  passing-call {g} (step-kept {r} e s) w = record { allowed = allowed-more (g .kept) r (w .allowed) (e .left); passed = not-tangled (g .kept ++ r ∷ []) s }
+  passing-call (withdraw-refused p) w = w
+  passing-call (withdraws e) w = w
+
+  -- ---- a tangled step stays tangled
+
+  -- no relatively serial order of the kept list extended by a step of r agrees with it
+  abbrev NoOrder : State → ℕ → Type 0
+  NoOrder g r = ¬ RelativelySerializable (conflict-of c) (unit-of c) (g .kept ++ r ∷ [])
+
+  tangled-call : (r : ℕ) {g h : State} {x : Call} {a : Answer} → PlainCall c g x a h → NoOrder g r → NoOrder h r
+  tangled-call r (step-refused p) n = n
+  tangled-call r (step-tangled e m) n = n
+  tangled-call r {g} (step-kept {r = q} e s) n = go (eq-cases q r)
+    where
+      go : Compared q r → ¬ RelativelySerializable (conflict-of c) (unit-of c) (g .kept ++ q ∷ [] ++ r ∷ [])
+      go (inl f) = absurd (rw (f .1) at s n)
+      go (inr f) = tangled-stays (conflict-of c) (unit-of c) (g .kept) (q ∷ []) r (rw (f .0)) n
+  tangled-call r (withdraw-refused p) n = n
+  tangled-call r (withdraws e) n = n
+
   -- ---- a call of the list, at its moment
 
   -- the rule by which call i was answered, from the state that the calls before it lead to
@@ -72,7 +135,7 @@ module _ (c : Contents) where
   other-number (all-kept h n l) e = let z : _≡_ {A = ℕ} 22 23 = cc in omega arith
 
   -- an eligible step is refused as tangled exactly when it is
-  eligible-tangled : {g h : State} {r : ℕ} {a : Answer} → Eligible c g r → PlainCall c g (step r) a h → (a ≡ refused (number Tangled)) ↔ (IsTangled c g r)
+  eligible-tangled : {g h : State} {r : ℕ} {a : Answer} → Eligible c g r → PlainCall c g (step r) a h → (a ≡ refused (number Tangled)) ↔ NoOrder g r
   eligible-tangled {g} e (step-refused p) = absurd (not-eligible c g p e)
   eligible-tangled e (step-tangled f n) = (λ q. n, λ m. refl)
   eligible-tangled {g} e (step-kept f s) = (λ q. absurd (not-place (length (g .kept)) (number Tangled) q), λ m. absurd (s m))
@@ -98,10 +161,10 @@ module _ (c : Contents) where
   withdrawn-after : (r : ℕ) {g h : State} → PlainCall c g (withdraw r) withdrawn h → In r (h .withdrawn)
   withdrawn-after r {g} (withdraws e) = in-insert r (g .withdrawn)
 
-  tangled-bars : (r : ℕ) {g h : State} {p : ℕ} → IsTangled c g r → PlainCall c g (step r) (place p) h → ⊥
+  tangled-bars : (r : ℕ) {g h : State} {p : ℕ} → NoOrder g r → PlainCall c g (step r) (place p) h → ⊥
   tangled-bars r n (step-kept e s) = s n
 
-  tangled-after : (r : ℕ) {g h : State} {a : Answer} → a ≡ refused (number Tangled) → PlainCall c g (step r) a h → IsTangled c h r
+  tangled-after : (r : ℕ) {g h : State} {a : Answer} → a ≡ refused (number Tangled) → PlainCall c g (step r) a h → NoOrder h r
   tangled-after r q (step-refused p) = absurd (other-number p q)
   tangled-after r q (step-tangled e n) = n
   tangled-after r {g} q (step-kept e s) = absurd (not-place (length (g .kept)) (number Tangled) q)
@@ -110,7 +173,7 @@ module _ (c : Contents) where
 
   passing-calls : {g h : State} {xs : List Call} {bs : List Answer} → PlainCalls c g xs bs h → Passing c (g .kept) → Passing c (h .kept)
   passing-calls none w = w
-  passing-calls (next p ps) w = passing-calls ps (passing-call c p w)
+  passing-calls (next p ps) w = passing-calls ps (passing-call p w)
 
   pub plain-demand : (s : List ℕ) → Bytes s → read s ≡ accepted c → (calls : List Call) (answers : List Answer) (g : State) → PlainCalls c newly-opened calls answers g
       → Demand3 s c calls answers g
@@ -127,5 +190,5 @@ module _ (c : Contents) where
     withdrawn-stays = λ i j r l x a y b.
         later r (λ g. In r (g .withdrawn)) (λ g h x a p w. withdrawn-call c r p w) (λ g h q w p. withdrawn-bars r w p) (λ g h p. withdrawn-after r p) l x a y (b .1) ps;
     tangled-stays = λ i j r l x a y b.
-        later r (λ g. IsTangled c g r) (λ g h x a p n. tangled-call c r p n) (λ g h q n p. tangled-bars r n p) (λ g h p. tangled-after r refl p) l x a y (b .1) ps;
+        later r (λ g. NoOrder g r) (λ g h x a p n. tangled-call r p n) (λ g h q n p. tangled-bars r n p) (λ g h p. tangled-after r refl p) l x a y (b .1) ps;
   }

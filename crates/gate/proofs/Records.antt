@@ -13,10 +13,10 @@ use lib.Dec.{eqb}
 use Rattle.theory.specs.Relative.{RelativelySerializable}
 use Rattle.book.specs.Format.{run-limit, step-limit, Contents, Outcome, pick, done, effect, refused as book-refused, with-history}
 use Rattle.book.specs.Meaning.{conflict-of, unit-of}
-use Rattle.book.specs.Book.{set-history, Represents, flagged, contents-of, Flags, empty-book, outcome-by, ReadAs}
+use Rattle.book.specs.Book.{set-history, Represents, flagged, contents-of, Flags, Valid, empty-book, outcome-by, ReadAs}
 use Rattle.book.specs.declared.Book.{Book}
 use Rattle.book.specs.declared.Cause.{Cause}
-use Rattle.book.specs.declared.Cause.the-variants.{Tangled}
+use Rattle.book.specs.declared.Cause.the-variants.{Tangled, Damaged}
 use Rattle.book.specs.declared.Answer.{Answer as BookAnswer}
 use Rattle.book.specs.declared.Answer.the-variants.{Refused as BookRefused, Accepted as BookAccepted}
 use Rattle.book.specs.declared.Reading.{Reading}
@@ -24,11 +24,12 @@ use Rattle.book.proofs.Groups.{count-flagged, flags-set}
 use Rattle.book.proofs.Books.{runs-are, length-is, count-is, history-long, done-below-steps, represents-done}
 use Rattle.book.proofs.Empty.{represents-empty, history-empty}
 use Rattle.theory.specs.Answers.{Answers}
-use Rattle.theory.proofs.Answered.{refute}
-use Rattle.gate.specs.Plain.{step, withdraw, In, insert, Eligible, Refusal, IsTangled, place, PlainCall, step-refused, step-tangled, step-kept, withdraw-refused, withdraws, not-declared as plain-not-declared, was-withdrawn as plain-was-withdrawn, all-kept as plain-all-kept}
-use Rattle.gate.specs.Gate.{book-of, state-of, Sound, opening-answer, opened-book, OpenedAs, CalledAs}
+use Rattle.theory.proofs.Answered.{answer-no, refute}
+use Rattle.gate.specs.Plain.{Call, step, withdraw, In, insert, Eligible, Refusal, IsTangled, place, PlainCall, step-refused, step-tangled, step-kept, withdraw-refused, withdraws, not-declared as plain-not-declared, was-withdrawn as plain-was-withdrawn, all-kept as plain-all-kept}
+use Rattle.gate.specs.Gate.{book-of, state-of, Sound, opening-answer, opened-book, OpenedAs, SoundCall, CalledAs, on-sound, on-damaged}
 use Rattle.gate.specs.inner.Calls.{EligibleIn, RefusalIn, not-declared, was-withdrawn, all-kept, EligibilityIn, StepLeft}
 use Rattle.gate.specs.declared.Gate.{Gate}
+use Rattle.gate.specs.declared.Reply.{Reply}
 use Rattle.gate.specs.declared.Reply.the-variants.{Place, Withdrawn, Refused}
 use Rattle.gate.specs.declared.Eligibility.{Eligibility}
 use Rattle.gate.specs.declared.Eligibility.the-variants.{Eligible as IsEligible, Refused as IsRefused}
@@ -140,10 +141,10 @@ module _ (g : Gate) (r i : ℕ) (y : Sound g) (e : i ≡ r) where
   kept-of n c p q o s = rw (p, q) (step-kept o s)
 
   module _ (t : Eligibility) (w : EligibilityIn (g .book .declared) (g .book .lengths) (g .book .counts) (g .withdrawn) i t) where
-    pub step-refuses : (cause : Cause) → t ≡ IsRefused cause → CalledAs g (step r) (Refused cause) g
+    pub step-refuses : (cause : Cause) → t ≡ IsRefused cause → SoundCall g (step r) (Refused cause) g
     step-refuses cause q = record { plain = step-refused (refusal-of (rw q at w)); book = refl; sound = y }
 
-    pub withdraw-refuses : (cause : Cause) → t ≡ IsRefused cause → CalledAs g (withdraw r) (Refused cause) g
+    pub withdraw-refuses : (cause : Cause) → t ≡ IsRefused cause → SoundCall g (withdraw r) (Refused cause) g
     withdraw-refuses cause q = record { plain = withdraw-refused (refusal-of (rw q at w)); book = refl; sound = y }
 
     module _ (q : t ≡ IsEligible) where
@@ -156,7 +157,7 @@ module _ (g : Gate) (r i : ℕ) (y : Sound g) (e : i ≡ r) where
       pub flag-low : i < run-limit
       flag-low = omega (arith, in-tables .declared, y .valid .runs .few-runs)
 
-      pub withdraw-done : CalledAs g (withdraw r) Withdrawn (record { book = g .book; withdrawn = set (g .withdrawn) i 1 })
+      pub withdraw-done : SoundCall g (withdraw r) Withdrawn (record { book = g .book; withdrawn = set (g .withdrawn) i 1 })
       withdraw-done = record {
         plain = rw (ap (λ (n : ℕ). flagged 0 (set (g .withdrawn) n 1)) e ∙ flag-set (g .withdrawn) r (omega (arith, flag-low, y .flags .long))) (withdraws (eligible-of in-tables));
         book = refl;
@@ -164,12 +165,36 @@ module _ (g : Gate) (r i : ℕ) (y : Sound g) (e : i ≡ r) where
       }
 
       module _ (b : Book) (ok : Bool) (m : Represents (effect (done r) (contents-of (g .book))) b) (p : Answers (RelativelySerializable (conflict-of (contents-of b)) (unit-of (contents-of b)) (contents-of b .history)) ok) where
-        pub step-tangles : ok ≡ false → CalledAs g (step r) (Refused Tangled) g
+        pub step-tangles : ok ≡ false → SoundCall g (step r) (Refused Tangled) g
         step-tangles h = record { plain = step-tangled (eligible-of in-tables) (rw (m .contents) at (refute p h)); book = refl; sound = y }
 
-        pub step-keeps : ok ≡ true → CalledAs g (step r) (Place (g .book .done)) (record { book = b; withdrawn = g .withdrawn })
+        pub step-keeps : ok ≡ true → SoundCall g (step r) (Place (g .book .done)) (record { book = b; withdrawn = g .withdrawn })
         step-keeps h = record {
           plain = kept-of (g .book .done) (contents-of b) (sym (history-long (g .book) (y .valid))) (m .contents) (eligible-of in-tables) (λ n. n (rw (m .contents) at (p .sound h)));
           book = rw (m .contents);
           sound = record { valid = m .valid; flags = y .flags };
         }
+
+-- ---- any record
+
+module _ (g : Gate) (ok : Bool) (p : Answers (Flags run-limit (g .withdrawn)) ok) where
+  pub flags-fail : ok ≡ false → Answers (Sound g) false
+  flags-fail e = answer-no (λ y. refute p e (y .flags))
+
+  pub book-tells : ok ≡ true → (b : Bool) → Answers (Valid (g .book)) b → Answers (Sound g) b
+  book-tells e b q = record { sound = λ f. record { valid = q .sound f; flags = p .sound e }; complete = λ y. q .complete (y .valid) }
+
+pub tested-sound : (g : Gate) (ok : Bool) → Answers (Sound g) ok → ok ≡ true → Sound g
+tested-sound g ok p e = p .sound e
+
+module _ (g : Gate) (x : Call) (ok : Bool) (p : Answers (Sound g) ok) where
+  pub called-sound : (a : Reply) (h : Gate) → ok ≡ true → SoundCall g x a h → CalledAs g x a h
+  called-sound a h e w = on-sound (p .sound e) w
+
+  pub called-damaged : ok ≡ false → CalledAs g x (Refused Damaged) g
+  called-damaged e = on-damaged (refute p e) refl refl
+
+-- a call on a sound record
+pub sound-call : {g h : Gate} {x : Call} {a : Reply} → Sound g → CalledAs g x a h → SoundCall g x a h
+sound-call y (on-sound z w) = w
+sound-call y (on-damaged n e f) = absurd (n y)

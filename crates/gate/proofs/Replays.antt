@@ -26,6 +26,7 @@ use Rattle.gate.specs.declared.AnswerBytes.{AnswerBytes}
 use Rattle.gate.specs.declared.Played.{Played}
 use Rattle.gate.specs.declared.Played.the-variants.{Refused, Done}
 use Rattle.gate.proofs.PlainGate.{single-calls}
+use Rattle.gate.proofs.Records.{sound-call}
 use Rattle.gate.proofs.Chained.{chain-book, opened-plain, demand-3, chain-snoc, chain-length}
 use Rattle.gate.proofs.CallBytes.{length-calls, call-at, drop-two, answers-snoc, answers-length, answers-back}
 
@@ -97,12 +98,12 @@ module _ (g : Gate) (bs b : List ℕ) (n : ℕ) (z : List ℕ) (h : Gate) (i : �
       every = w .every;
       fits = w .fits;
       long = simp length-set (w .long);
-      sound = called .sound;
+      sound = sound-call (w .sound) called .sound;
       plays = record {
         answers = w .plays .answers ++ answer-of (x .answer) ∷ [];
         chain = rw more (chain-snoc (w .plays .chain) (x .answer) called);
         buffer = buffer-more;
-        sound = called .sound;
+        sound = sound-call (w .sound) called .sound;
       };
     }
 
@@ -169,7 +170,7 @@ module _ (s bs b : List ℕ) (o : Opened) (w : OpenedAs (read s) o) where
           → Replays s bs b z (record { played = Done (length bs / 2); gate = g })
       replay-done bytes l z g p = record {
         played = rw (is-read .1, ← scanned, eq-eqb at (length bs) h, le-leb (2 * length (calls-of bs)) (length b) (omega (arith, two-each)), length-calls bs);
-        book = chain-book (p .chain) ∙ w .book;
+        book = chain-book (p .chain) (w .sound) ∙ w .book;
         sound = p .sound;
         refused-unchanged = λ f. absurd (f (length bs / 2) refl);
         calls-made = λ c n q d. record {

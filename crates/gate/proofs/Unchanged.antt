@@ -1,5 +1,5 @@
 -- A record is determined by what it means: two sound records of the same book and state are equal in every byte. So a refused call changes no byte of
--- the record.
+-- the record, and one that is not sound is handed back as it is.
 use Prim.Native.Nat.{ℕ}
 use mathlib.Core.Path.{_≡_, refl, ap, ap₂, sym, _∙_}
 use mathlib.Core.List.{List}
@@ -11,7 +11,7 @@ use Rattle.book.specs.declared.Book.{Book}
 use Rattle.book.specs.declared.Cause.{Cause}
 use Rattle.book.proofs.Determined.{flags-same, determined}
 use Rattle.gate.specs.Plain.{Call, Answer, refused, State, PlainCall, step-refused, step-tangled, step-kept, withdraw-refused, withdraws}
-use Rattle.gate.specs.Gate.{book-of, state-of, Sound, CalledAs}
+use Rattle.gate.specs.Gate.{book-of, state-of, Sound, CalledAs, on-sound, on-damaged}
 use Rattle.gate.specs.declared.Gate.{Gate}
 use Rattle.gate.specs.declared.Reply.the-variants.{Refused}
 
@@ -30,5 +30,6 @@ stays n (step-kept d t) e = let z : _≡_ {A = ℕ} 0 1 = cc in absurd (omega ar
 stays n (withdraw-refused d) e = refl
 stays n (withdraws d) e = let z : _≡_ {A = ℕ} 0 1 = cc in absurd (omega arith)
 
-pub refused-unchanged : (g h : Gate) (x : Call) (cause : Cause) → Sound g → CalledAs g x (Refused cause) h → h ≡ g
-refused-unchanged g h x cause y w = same-record h g (w .sound) y (w .book) (stays (number cause) (w .plain) refl)
+pub refused-unchanged : (g h : Gate) (x : Call) (cause : Cause) → CalledAs g x (Refused cause) h → h ≡ g
+refused-unchanged g h x cause (on-sound y w) = same-record h g (w .sound) y (w .book) (stays (number cause) (w .plain) refl)
+refused-unchanged g h x cause (on-damaged n e f) = f

@@ -2,16 +2,18 @@
 use Prim.Native.Nat.{ℕ, zero, suc, _≤_, _<_}
 use mathlib.Core.Path.{_≡_}
 use mathlib.Core.Logic.{_↔_}
-use mathlib.Core.List.{List, _∷_}
+use mathlib.Core.List.{List, [], _∷_, _++_}
 use lib.ListN.{length, take}
+use Rattle.theory.specs.Relative.{RelativelySerializable}
 use Rattle.book.specs.Format.{Bytes, Contents, accepted, step-limit, read, with-history}
+use Rattle.book.specs.Meaning.{conflict-of, unit-of}
 use Rattle.book.specs.Numbers.{number}
 use Rattle.book.specs.declared.Cause.the-variants.{Tangled}
 use Rattle.book.specs.Render.{render}
 use Rattle.judge.specs.Judge.{BytesJudged}
 use Rattle.judge.specs.declared.Judgement.{Judgement}
 use Rattle.judge.specs.declared.Verdict.the-variants.{Passed}
-use Rattle.gate.specs.Plain.{Call, step, withdraw, Answer, place, withdrawn, refused, State, newly-opened, Eligible, IsTangled, PlainCalls}
+use Rattle.gate.specs.Plain.{Call, step, withdraw, Answer, place, withdrawn, refused, State, newly-opened, Eligible, PlainCalls}
 
 -- x stands at index i of the list
 pub data At {A : Type 0} : List A → ℕ → A → Type 0 where
@@ -50,7 +52,7 @@ pub record Demand3 (s : List ℕ) (c : Contents) (calls : List Call) (answers : 
   -- A step call whose run was declared, not withdrawn and had a step left was refused, as tangled, exactly when no relatively serial order of
   -- that moment's kept list extended by that step agrees with the extended list on every conflicting pair.
   pub tangled-exactly : (i r : ℕ) (m : State) → At calls i (step r) → Moment c calls i m → Eligible c m r
-      → At answers i (refused (number Tangled)) ↔ IsTangled c m r
+      → At answers i (refused (number Tangled)) ↔ (¬ RelativelySerializable (conflict-of c) (unit-of c) (m .kept ++ r ∷ []))
   -- Once a run is withdrawn, no step call for it later in the list is admitted.
   pub withdrawn-stays : (i j r : ℕ) → i < j → At calls i (withdraw r) → At answers i withdrawn → At calls j (step r) → ¬ Admitted answers j
   -- Once a step call is refused as tangled, no step call for the same run later in the list is admitted.

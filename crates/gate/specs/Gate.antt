@@ -4,6 +4,7 @@ use mathlib.Core.List.{[]}
 use Rattle.book.specs.Format.{Contents, Outcome, run-limit, nothing, refused as book-refused, accepted as book-accepted, with-history}
 use Rattle.book.specs.Numbers.{number, Numbers, refused-with, value-of}
 use Rattle.book.specs.Book.{flagged, contents-of, Flags, Valid}
+use Rattle.book.specs.declared.Cause.the-variants.{Damaged}
 use Rattle.book.specs.declared.Answer.{Answer as BookAnswer}
 use Rattle.book.specs.declared.Answer.the-variants.{Refused as BookRefused, Accepted as BookAccepted}
 use Rattle.gate.specs.Plain.{Call, Answer, place, withdrawn, refused, State, newly-opened, PlainCall}
@@ -18,7 +19,7 @@ answer-of (Place p) = place p
 answer-of Withdrawn = withdrawn
 answer-of (Refused cause) = refused (number cause)
 
--- each case in numbers: the place of an admitted step; a withdrawal has no value; 20 to 23 with the number only
+-- each case in numbers: the place of an admitted step; a withdrawal has no value; 20 to 23 and 26 with the number only
 abbrev pub reply-numbers : Reply → Numbers
 reply-numbers (Place p) = value-of p
 reply-numbers Withdrawn = value-of 0
@@ -32,7 +33,7 @@ book-of g = with-history (contents-of (g .book)) []
 abbrev pub state-of : Gate → State
 state-of g = record { kept = contents-of (g .book) .history; withdrawn = flagged 0 (g .withdrawn) }
 
--- holds of every record that opening and the calls return; it is all that the calls ask of a record
+-- the tables have their ranges and agree with each other; so it is of every record that opening and the calls return
 pub record Sound (g : Gate) : Type 0 where
   pub valid : Valid (g .book)
   pub flags : Flags run-limit (g .withdrawn)
@@ -58,8 +59,13 @@ pub record OpenedAs (o : Outcome) (x : Opened) : Type 0 where
   pub state : state-of (x .gate) ≡ newly-opened
   pub sound : Sound (x .gate)
 
--- what a call promises, of the record g at entry, its answer, and the record h at exit: the plain gate's answer and next state, and the same book
-pub record CalledAs (g : Gate) (x : Call) (a : Reply) (h : Gate) : Type 0 where
+-- what a call promises of a sound record g at entry, its answer, and the record h at exit: the plain gate's answer and next state, and the same book
+pub record SoundCall (g : Gate) (x : Call) (a : Reply) (h : Gate) : Type 0 where
   pub plain : PlainCall (book-of g) (state-of g) x (answer-of a) (state-of h)
   pub book : book-of h ≡ book-of g
   pub sound : Sound h
+
+-- what a call promises of any record g: one that is not sound is refused by 26, before all else, and no byte of it changes
+pub data CalledAs (g : Gate) (x : Call) (a : Reply) (h : Gate) : Type 0 where
+  on-sound : Sound g → SoundCall g x a h → CalledAs g x a h
+  on-damaged : ¬ Sound g → a ≡ Refused Damaged → h ≡ g → CalledAs g x a h

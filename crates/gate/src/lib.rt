@@ -1,10 +1,11 @@
 // The gate: one record, updated by each call. Opening, step and withdraw, and the replay of a whole list of calls.
 ghost use mathlib.Core.Path.{_≡_};
 ghost use Prim.Native.Nat.{_≤_};
+ghost use Rattle.theory.specs.Answers.{Answers};
 ghost use Rattle.book.specs.Format.{run-limit, done, effect, read};
 ghost use Rattle.book.specs.Book.{Represents, contents-of};
 ghost use Rattle.gate.specs.Plain.{step as step-call, withdraw as withdraw-call};
-ghost use Rattle.gate.specs.Gate.{Sound, OpenedAs, CalledAs};
+ghost use Rattle.gate.specs.Gate.{Sound, SoundCall, OpenedAs, CalledAs};
 ghost use Rattle.gate.specs.Replay.{call-of, calls-of, bad-at, Replays};
 ghost use Rattle.gate.specs.inner.Calls.{EligibilityIn, StepLeft, Low, BytesOf, AnswersRoom, Plays};
 use book::Answer;
@@ -53,6 +54,14 @@ pub fn open(s: &[u8]) -> Opened
     }
 }
 
+// Whether the record's tables have their ranges and agree with each other.
+fn is_sound(g: Gate) -> bool
+    ensures { λ r. ⌜ Answers (Sound g) r ⌝ }
+{
+    let withdrawn = g.withdrawn;
+    withdrawn[0] == 1
+}
+
 // Whether a call for a run is refused by 20, 21 or 22.
 enum Eligibility {
     Eligible,
@@ -95,10 +104,10 @@ fn with_done(mut b: Book, r: u8) -> Book
     b
 }
 
-// Step r on a record by value.
-fn step_value(g: Gate, r: u8) -> Called
+// Step r on a sound record.
+fn step_sound(g: Gate, r: u8) -> Called
     requires { ⌜ Sound g ⌝ }
-    ensures { λ x. ⌜ CalledAs g (step-call r) (x .answer) (x .gate) ⌝ }
+    ensures { λ x. ⌜ SoundCall g (step-call r) (x .answer) (x .gate) ⌝ }
 {
     let b = g.book;
     let withdrawn = g.withdrawn;
@@ -130,10 +139,10 @@ fn step_value(g: Gate, r: u8) -> Called
     }
 }
 
-// Withdraw r on a record by value.
-fn withdraw_value(g: Gate, r: u8) -> Called
+// Withdraw r on a sound record.
+fn withdraw_sound(g: Gate, r: u8) -> Called
     requires { ⌜ Sound g ⌝ }
-    ensures { λ x. ⌜ CalledAs g (withdraw-call r) (x .answer) (x .gate) ⌝ }
+    ensures { λ x. ⌜ SoundCall g (withdraw-call r) (x .answer) (x .gate) ⌝ }
 {
     let b = g.book;
     let withdrawn = g.withdrawn;
@@ -156,9 +165,34 @@ fn withdraw_value(g: Gate, r: u8) -> Called
     }
 }
 
-// Step r: refused by 20, 21, 22, 23 in that order; else r joins the end of the kept list, and the answer is its place.
+// Step r on a record by value.
+fn step_value(g: Gate, r: u8) -> Called
+    ensures { λ x. ⌜ CalledAs g (step-call r) (x .answer) (x .gate) ⌝ }
+{
+    if is_sound(g) {
+        return step_sound(g, r);
+    }
+    Called {
+        answer: Reply::Refused(Cause::Damaged),
+        gate: g,
+    }
+}
+
+// Withdraw r on a record by value.
+fn withdraw_value(g: Gate, r: u8) -> Called
+    ensures { λ x. ⌜ CalledAs g (withdraw-call r) (x .answer) (x .gate) ⌝ }
+{
+    if is_sound(g) {
+        return withdraw_sound(g, r);
+    }
+    Called {
+        answer: Reply::Refused(Cause::Damaged),
+        gate: g,
+    }
+}
+
+// Step r: refused by 26 where the record is not sound, then by 20, 21, 22, 23 in that order; else r joins the end of the kept list, and the answer is its place.
 pub fn step(g: &mut Gate, r: u8) -> Reply
-    requires { ⌜ Sound (now g) ⌝ }
     ensures { λ a. ⌜ CalledAs (now (g .entry)) (step-call r) a (now (g .exit)) ⌝ }
 {
     let called = step_value(*g, r);
@@ -166,9 +200,8 @@ pub fn step(g: &mut Gate, r: u8) -> Reply
     called.answer
 }
 
-// Withdraw r: refused by 20, 21, 22 in that order; else r is withdrawn, and the kept list stays.
+// Withdraw r: refused by 26 where the record is not sound, then by 20, 21, 22 in that order; else r is withdrawn, and the kept list stays.
 pub fn withdraw(g: &mut Gate, r: u8) -> Reply
-    requires { ⌜ Sound (now g) ⌝ }
     ensures { λ a. ⌜ CalledAs (now (g .entry)) (withdraw-call r) a (now (g .exit)) ⌝ }
 {
     let called = withdraw_value(*g, r);
@@ -178,7 +211,6 @@ pub fn withdraw(g: &mut Gate, r: u8) -> Reply
 
 // `step`, for a caller that holds the record by value.
 pub fn after_step(g: Gate, r: u8) -> Called
-    requires { ⌜ Sound g ⌝ }
     ensures { λ called. ⌜ CalledAs g (step-call r) (called .answer) (called .gate) ⌝ }
 {
     let mut h = g;
@@ -188,7 +220,6 @@ pub fn after_step(g: Gate, r: u8) -> Called
 
 // `withdraw`, for a caller that holds the record by value.
 pub fn after_withdraw(g: Gate, r: u8) -> Called
-    requires { ⌜ Sound g ⌝ }
     ensures { λ called. ⌜ CalledAs g (withdraw-call r) (called .answer) (called .gate) ⌝ }
 {
     let mut h = g;
@@ -198,7 +229,6 @@ pub fn after_withdraw(g: Gate, r: u8) -> Called
 
 // One call in two bytes: 0x53 and a run steps it, 0x57 and a run withdraws it.
 fn call_value(g: Gate, op: u8, r: u8) -> Called
-    requires { ⌜ Sound g ⌝ }
     ensures { λ x. ⌜ CalledAs g (call-of op r) (x .answer) (x .gate) ⌝ }
 {
     if op == 0x53 {

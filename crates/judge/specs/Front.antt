@@ -15,3 +15,9 @@ abbrev pub front-of : Verdict → ℕ → List ℕ → List ℕ → List ℕ
 front-of Passed count order cycle = first-bytes count order
 front-of Tangled count order cycle = first-bytes count cycle
 front-of (Refused cause place) count order cycle = []
+
+-- which of the two buffers the part begins at: the one that the verdict used; where the judge refused, an empty part of the order buffer
+abbrev pub front-at : {A : Type 0} → Verdict → A → A → A
+front-at Passed order cycle = order
+front-at Tangled order cycle = cycle
+front-at (Refused cause place) order cycle = order

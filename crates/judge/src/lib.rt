@@ -17,7 +17,7 @@ ghost use Rattle.theory.specs.Answers.{Answers};
 ghost use Rattle.graph.specs.inner.Tables.{HistoryOf};
 ghost use Rattle.judge.specs.Judged.{JudgedAs};
 ghost use Rattle.judge.specs.Judge.{BytesJudged};
-ghost use Rattle.judge.specs.Front.{front-of};
+ghost use Rattle.judge.specs.Front.{front-of, front-at};
 ghost use Rattle.judge.specs.declared.Verdict.the-variants.{Refused};
 ghost use Rattle.judge.specs.inner.Turns.{ReadyIn, AllTaken, FirstUntaken, FirstReady, TurnsTaken};
 ghost use Rattle.judge.specs.inner.Cycles.{Stuck, CycleIn};
@@ -236,9 +236,11 @@ pub fn judge(s: &[u8], order: &mut [u8], cycle: &mut [u8]) -> Judgement
     }
 }
 
-// The filled part of the buffer that the verdict used: its first bytes, as many as the count; an empty part if it is shorter or the judge refused.
+// The filled part of the buffer that the verdict used: its first bytes, as many as the count; an empty part if it is shorter or the judge refused. The
+// part lies in that buffer itself, and begins where it does.
 pub fn front<'a>(order: &'a [u8], cycle: &'a [u8], verdict: Verdict, count: usize) -> &'a [u8]
     ensures { λ r. ⌜ now r ≡ front-of verdict count (now (order .entry)) (now (cycle .entry)) ⌝ }
+    ensures { λ r. ⌜ r .ptr ≡ front-at verdict (order .entry .ptr) (cycle .entry .ptr) ⌝ }
 {
     match verdict {
         Verdict::Passed => {

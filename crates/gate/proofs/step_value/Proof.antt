@@ -1,46 +1,20 @@
--- `step_value` is right: each of its ways out is a rule of the plain gate for a step.
-use Rattle.gate.proofs.Records.{step-refuses, step-left, step-keeps, step-tangles}
+-- `step_value` is right: a record that is not sound is refused as it is, and any other is `step_sound`'s.
+use Rattle.gate.proofs.Records.{tested-sound, called-sound, called-damaged}
 use borrow.Author.Needs.{needs}
 use Rattle.gate.proofs.step_value.Statement.{statement}
 use Rattle.gate.proofs.step_value.Tie as tie
 
-wide-requires : tie.Need-wide-requires
-wide-requires c κs = search needs
+is-sound-requires : tie.Need-is-sound-requires
+is-sound-requires c κs = search needs
 
-eligibility-of-requires : tie.Need-eligibility-of-requires
-eligibility-of-requires c κs = search needs
-
-enum-known-cause : tie.Need-enum-known-cause
-enum-known-cause c = search needs
+step-sound-requires : tie.Need-step-sound-requires
+step-sound-requires c κs = search tested-sound
 
 returns : tie.Need-returns
-returns c = search step-refuses
-
-enum-told : tie.Need-enum-told
-enum-told c = search needs
-
-with-done-requires : tie.Need-with-done-requires
-with-done-requires c κs = search step-left
-
-passes-requires : tie.Need-passes-requires
-passes-requires c κs = search needs
+returns c = search called-sound
 
 returns-2 : tie.Need-returns-2
-returns-2 c = search step-keeps
-
-returns-3 : tie.Need-returns-3
-returns-3 c = search step-tangles
+returns-2 c = search called-damaged
 
 pub step-value-spec : {M : Type 1} → statement M
-step-value-spec =
-    tie.close
-    (tie.spec
-    wide-requires
-    eligibility-of-requires
-    enum-known-cause
-    returns
-    enum-told
-    with-done-requires
-    passes-requires
-    returns-2
-    returns-3)
+step-value-spec = tie.close (tie.spec is-sound-requires step-sound-requires returns returns-2)

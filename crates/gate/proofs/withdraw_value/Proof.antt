@@ -1,38 +1,20 @@
--- `withdraw_value` is right: each of its ways out is a rule of the plain gate for a withdrawal.
-use Rattle.gate.proofs.Records.{withdraw-refuses, flag-low, withdraw-done}
+-- `withdraw_value` is right: a record that is not sound is refused as it is, and any other is `withdraw_sound`'s.
+use Rattle.gate.proofs.Records.{tested-sound, called-sound, called-damaged}
 use borrow.Author.Needs.{needs}
 use Rattle.gate.proofs.withdraw_value.Statement.{statement}
 use Rattle.gate.proofs.withdraw_value.Tie as tie
 
-wide-requires : tie.Need-wide-requires
-wide-requires c κs = search needs
+is-sound-requires : tie.Need-is-sound-requires
+is-sound-requires c κs = search needs
 
-eligibility-of-requires : tie.Need-eligibility-of-requires
-eligibility-of-requires c κs = search needs
-
-enum-known-cause : tie.Need-enum-known-cause
-enum-known-cause c = search needs
+withdraw-sound-requires : tie.Need-withdraw-sound-requires
+withdraw-sound-requires c κs = search tested-sound
 
 returns : tie.Need-returns
-returns c = search withdraw-refuses
-
-enum-told : tie.Need-enum-told
-enum-told c = search needs
-
-element-write-h : tie.Need-element-write-h
-element-write-h c = search flag-low
+returns c = search called-sound
 
 returns-2 : tie.Need-returns-2
-returns-2 c = search withdraw-done
+returns-2 c = search called-damaged
 
 pub withdraw-value-spec : {M : Type 1} → statement M
-withdraw-value-spec =
-    tie.close
-    (tie.spec
-    wide-requires
-    eligibility-of-requires
-    enum-known-cause
-    returns
-    enum-told
-    element-write-h
-    returns-2)
+withdraw-value-spec = tie.close (tie.spec is-sound-requires withdraw-sound-requires returns returns-2)

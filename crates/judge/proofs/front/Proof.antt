@@ -32,16 +32,16 @@ slice-aggregate-result-5 : tie.Need-slice-aggregate-result-5
 slice-aggregate-result-5 c = search needs
 
 returns : tie.Need-returns
-returns c = simp (c .before .before .enum-told .given .1, le-leb _ _ (c .before .if1 .taken))
+returns c = (simp (c .before .before .enum-told .given .1, le-leb _ _ (c .before .if1 .taken)), simp (c .before .before .enum-told .given .1))
 
 returns-2 : tie.Need-returns-2
-returns-2 c = simp (c .before .before .enum-told .given .1, lt-leb _ _ (c .before .if1 .left))
+returns-2 c = (simp (c .before .before .enum-told .given .1, lt-leb _ _ (c .before .if1 .left)), simp (c .before .before .enum-told .given .1))
 
 returns-3 : tie.Need-returns-3
-returns-3 c = simp (c .before .before .enum-told2 .given .1, le-leb _ _ (c .before .if2 .taken))
+returns-3 c = (simp (c .before .before .enum-told2 .given .1, le-leb _ _ (c .before .if2 .taken)), simp (c .before .before .enum-told2 .given .1))
 
 returns-4 : tie.Need-returns-4
-returns-4 c = simp (c .before .before .enum-told2 .given .1, lt-leb _ _ (c .before .if2 .left))
+returns-4 c = (simp (c .before .before .enum-told2 .given .1, lt-leb _ _ (c .before .if2 .left)), simp (c .before .before .enum-told2 .given .1))
 
 returns-5 : tie.Need-returns-5
 returns-5 c = search needs
