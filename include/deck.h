@@ -46,6 +46,7 @@ enum deck_number {
     DECK_GATE_TANGLED = 23, /* gate: tangled */
     DECK_NO_CALL = 24, /* replay: no call, or a cut-off one, at an offset of the list */
     DECK_ANSWERS_SHORT = 25, /* replay: the buffer of answers under two bytes a call */
+    DECK_GATE_DAMAGED = 26, /* gate: a table of the record out of range, or not in agreement with another */
 };
 
 enum deck_verdict { DECK_REFUSED = 0, DECK_PASSED = 1, DECK_TANGLED = 2 };
@@ -88,8 +89,12 @@ deck_answer deck_arc(const uint8_t *book, size_t book_len, size_t from, size_t t
 /* Writes the book anew from what was read of it: its bytes to the front of `out`, all other bytes unchanged. The value is its length. */
 deck_answer deck_write(const uint8_t *book, size_t book_len, uint8_t *out, size_t out_len);
 
-/* A gate, as deck_open hands it back. Programs may read it; only the calls below may write to it, and a call takes only a gate that deck_open made
-   and those calls updated. It holds no pointer, so a copy of it is a gate of its own. */
+/* A gate, as deck_open hands it back. It holds no pointer, so a copy of it is a gate of its own. Programs may read it; only the calls below may write
+   to it. A call refuses it by 26, and changes nothing, unless its tables are in range and agree with one another: `pairs`, `cuts` and `withdrawn`
+   hold 0 and 1 alone; there are at most DECK_RUNS runs, DECK_RUN_STEPS steps in a run and DECK_STEPS in all, of kinds below DECK_KINDS; `total` is
+   the sum of `lengths`; each of `counts` is how often the kept list has the run, at most its length, and `kept_count` is their sum; `lengths`,
+   `steps` and `kept` are 0 behind the runs, the steps and the kept steps. So is every record that deck_open and the calls leave. Any other that is
+   so is taken as the gate of the book, the kept list and the withdrawn runs that it holds: no call can tell. */
 typedef struct {
     uint8_t pairs[DECK_KINDS * DECK_KINDS]; /* 1 at a * DECK_KINDS + b for each listed pair of kinds a, b */
     uint8_t cuts[DECK_RUNS * DECK_RUN_STEPS * DECK_RUNS]; /* 1 at (r * DECK_RUN_STEPS + j) * DECK_RUNS + o for each cut in run r after its j-th step
@@ -120,10 +125,10 @@ _Static_assert
 /* Opens a gate over the book, whose own history plays no part: no step is kept, no run withdrawn. Refused by 1 to 11. */
 deck_opened deck_open(const uint8_t *book, size_t book_len);
 
-/* Steps a run: refused by 20, 21, 22, 23 in that order; else the run joins the end of the kept list, and the value is its place there. */
+/* Steps a run: refused by 26, 20, 21, 22, 23 in that order; else the run joins the end of the kept list, and the value is its place there. */
 deck_answer deck_step(deck_gate *gate, uint8_t run);
 
-/* Withdraws a run: refused by 20, 21, 22 in that order; else the run is withdrawn, and the kept list stays. The value is 0. */
+/* Withdraws a run: refused by 26, 20, 21, 22 in that order; else the run is withdrawn, and the kept list stays. The value is 0. */
 deck_answer deck_withdraw(deck_gate *gate, uint8_t run);
 
 /* Opens a gate over the book and makes the calls in turn on it. Two bytes a call: 0x53 and a run steps it, 0x57 and a run withdraws it. Two bytes

@@ -120,6 +120,7 @@ causes! {
     Tangled = 23, "gate: tangled";
     NoCall = 24, "replay: no call, or a cut-off one, at an offset of the list";
     AnswersShort = 25, "replay: the buffer of answers under two bytes a call";
+    Damaged = 26, "gate: a table of the record out of range, or not in agreement with another";
 }
 
 /// What was turned away: why, and the offset at which it was found (0 where it has none).
@@ -234,7 +235,7 @@ pub enum Reply {
     Refused(Cause),
 }
 
-/// A gate that is held open over a book: one record, updated by each call.
+/// A gate that is held open over a book: one record, updated by each call. Nothing else writes to it, so no call is refused as `Cause::Damaged`.
 #[derive(Clone)]
 pub struct Gate {
     record: Box<RawGate>,
@@ -319,7 +320,7 @@ mod tests {
         for (name, limit) in [("BOOK", BOOK), ("KINDS", KINDS), ("RUNS", RUNS), ("RUN_STEPS", RUN_STEPS), ("STEPS", STEPS)] {
             has(&format!("DECK_{}", name), limit as u64);
         }
-        for number in (1..=13).chain(20..=25) {
+        for number in (1..=13).chain(20..=26) {
             let cause = format!("{:?}", cause_of(number));
             let name = cause.chars().map(|c| if c.is_uppercase() { format!("_{}", c) } else { c.to_uppercase().collect() });
             has(&name.collect::<String>(), number);

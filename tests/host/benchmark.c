@@ -1,6 +1,6 @@
-/* Times the proved reader and judge against plain.c, on the same full books in the same run, and the gate's last step, at 127 kept steps, against the
-   judge on the same book (there both are proved); prints the ratios. Reader and judge read the book's bytes each time; the gate's time includes a copy of
-   its record. All are built with -O3; no buffer is cleared beforehand. */
+/* Times the proved reader and judge against plain.c, on the same full books in the same run, and the gate's 128th step, at 127 kept steps, against a
+   judge call on the same book (there both are proved); prints the ratios. Reader and judge read the book's bytes each time; the gate's time includes a
+   copy of its record and the test that it is sound. All are built with -O3; no buffer is cleared beforehand. */
 #include "books.h"
 #include "plain.h"
 #include <stdio.h>
@@ -57,14 +57,14 @@ static double timed(void (*call)(int)) {
 }
 
 /* The least of many times, taken in turn, so that other work on the machine disturbs both alike. */
-static void compare(const char *label, void (*proved)(int), const char *other_label, void (*other)(int)) {
+static void compare(const char *label, const char *proved_label, void (*proved)(int), const char *other_label, void (*other)(int)) {
     double p = 1e9, c = 1e9;
     for (int k = 0; k < REPEATS; k++) {
         double t = timed(proved), u = timed(other);
         p = t < p ? t : p;
         c = u < c ? u : c;
     }
-    printf("%-30s proved %7.2f us, %-9s %7.2f us, ratio %.2f\n", label, p, other_label, c, p / c);
+    printf("%-28s %s / %s: %.2f us / %.2f us = %.2f\n", label, proved_label, other_label, p, c, p / c);
 }
 
 /* Books of that shape that the judge passes, or does not. */
@@ -108,14 +108,14 @@ int main(void) {
         shape f = {.runs = DECK_RUNS, .fixed = DECK_STEPS / DECK_RUNS, .kinds = 4, .pairs = 50,
                    .positions = cases[k].positions, .cuts = cases[k].cuts, .burst = cases[k].burst};
         if (!fill(&f, cases[k].passed, 7 + k)) {
-            printf("%-30s no such books found\n", cases[k].label);
+            printf("%-28s no such books found\n", cases[k].label);
             continue;
         }
-        compare(cases[k].label, proved_judge, "plain C", plain_judges);
+        compare(cases[k].label, "judge call", proved_judge, "plain C", plain_judges);
         if (cases[k].cuts == 100)
-            compare("  reading alone", proved_read, "plain C", plain_reads);
+            compare("", "reading alone", proved_read, "plain C", plain_reads);
         if (cases[k].passed && keep_steps())
-            compare("  the gate's 128th step", proved_step, "the judge", proved_judge);
+            compare("", "gate's 128th step", proved_step, "judge call on the same book", proved_judge);
     }
     return 0;
 }

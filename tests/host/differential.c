@@ -1,5 +1,6 @@
-/* Compares the proved calls with plain.c on many books from a fixed seed, whole and damaged, and checks the evidence of each verdict.
-   Prints 'N passed, M failed', a count of books. */
+/* Compares the proved calls with plain.c on many books from a fixed seed, whole and damaged, and on gates' records, as the calls leave them and damaged,
+   and checks the evidence of each verdict. Prints 'N passed, M failed', a count of books, and how many damaged records there were of each sort; it fails
+   where there were none. */
 #include "books.h"
 #include "plain.h"
 #include <stdio.h>
@@ -10,6 +11,7 @@ enum { CALLS = 200 }; /* in a list, at most */
 enum { ROOM = DECK_BUFFER + 72 }; /* of each buffer, filled beforehand so that a stray byte shows */
 
 static const char *fault;
+static long damaged[2]; /* records: those not sound, those sound */
 
 static int expect(int ok, const char *what) {
     if (!ok && !fault)
@@ -94,23 +96,16 @@ static void compare_writer(source *s, const uint8_t *book, size_t len, plain_ref
     }
 }
 
-/* Each field of the record is as include/deck.h says, for the plain gate's book, kept list and withdrawn runs. */
+/* The record is that of the plain gate: sound, with its book, kept list and withdrawn runs, and each listed pair a, b with a at most b. */
 static int same_gate(const deck_gate *live, const plain_gate *g) {
-    const plain_book *b = &g->book;
-    int at = 0, same = live->declared == (uint64_t)b->runs && live->total == (uint64_t)b->steps && live->kept_count == (uint64_t)b->n;
-    same = same && memcmp(live->kept, b->history, sizeof b->history) == 0;
-    for (int r = 0; r < DECK_RUNS; r++) {
-        same = same && live->lengths[r] == b->length[r] && live->counts[r] == b->done[r] && live->withdrawn[r] == g->withdrawn[r];
-        for (int i = 0; i < b->length[r]; i++, at++)
-            same = same && live->steps[at] == (uint32_t)b->kind[r][i] * DECK_POSITIONS + b->position[r][i];
-        for (int j = 0; j < DECK_RUN_STEPS; j++)
-            for (int o = 0; o < DECK_RUNS; o++)
-                same = same && live->cuts[(r * DECK_RUN_STEPS + j) * DECK_RUNS + o] == b->cut[r][j][o];
-    }
+    plain_gate held;
+    if (!plain_sound(live))
+        return 0;
     for (int x = 0; x < DECK_KINDS; x++)
-        for (int y = 0; y < DECK_KINDS; y++)
-            same = same && live->pairs[x * DECK_KINDS + y] == (x <= y && b->conflicts[x][y]);
-    return same;
+        if (!untouched(live->pairs + x * DECK_KINDS, 0, (size_t)x, 0))
+            return 0;
+    plain_gate_of(live, &held);
+    return memcmp(&held, g, sizeof held) == 0;
 }
 
 /* Opens a gate over a book, of which the plain gate is this one. */
@@ -129,18 +124,113 @@ static void compare_refused_gate(const uint8_t *book, size_t len, plain_refusal 
     expect(deck_withdraw(&live, 0).number == DECK_GATE_NOT_DECLARED, "gate: a withdrawal on a gate without runs");
 }
 
-/* Makes a call on the record and on the plain gate: the plain gate's answer, as plain_step and plain_withdraw give it. */
-static int compare_call(deck_gate *live, plain_gate *g, int step, int run) {
-    int want = step ? plain_step(g, run) : plain_withdraw(g, run);
-    deck_gate before = *live;
-    deck_answer a = step ? deck_step(live, (uint8_t)run) : deck_withdraw(live, (uint8_t)run);
-    expect(a.number == (uint64_t)(want < 0 ? -want : 0) && a.place == 0 && a.value == (uint64_t)(want > 0 ? want : 0), "gate: an answer on the record");
-    expect(same_gate(live, g), "gate: the record after a call");
-    expect(want >= 0 || memcmp(live, &before, sizeof before) == 0, "gate: the record after a refused call");
-    return want;
+/* The plain gate's answer to a call, as plain_step and plain_withdraw give it. */
+static int plain_call(plain_gate *g, int step, int run) { return step ? plain_step(g, run) : plain_withdraw(g, run); }
+
+/* Makes a call on the record: compares its answer with the one wanted, given as by plain_call, and every byte of the record after it. */
+static void compare_call(deck_gate *record, int step, int run, int want, const char *what) {
+    deck_gate next = *record;
+    if (want >= 0 && step) {
+        next.kept[next.kept_count++] = (uint8_t)run;
+        next.counts[run]++;
+    } else if (want >= 0)
+        next.withdrawn[run] = 1;
+    deck_answer a = step ? deck_step(record, (uint8_t)run) : deck_withdraw(record, (uint8_t)run);
+    compare_answer(a, (plain_refusal){want < 0 ? -want : 0, 0}, want, what);
+    expect(memcmp(record, &next, sizeof next) == 0, what);
 }
 
-/* Makes n calls one by one on a record and on the plain gate, compares the answers of a replay with theirs, and checks demand 3's sentences. */
+/* Changes a record in one way, after which it may still be sound: some byte, every byte, a flag, a number, a step, a length, a count or a kept step. */
+static void damage_record(source *s, deck_gate *record) {
+    static const uint64_t edges[] = {0, DECK_RUNS, DECK_RUNS + 1, DECK_STEPS, DECK_STEPS + 1, UINT64_MAX};
+    uint64_t *numbers[] = {&record->declared, &record->total, &record->kept_count}, *number = numbers[below(s, 3)];
+    unsigned runs = below(s, 2) ? DECK_RUNS : 2, steps = below(s, 2) ? DECK_STEPS : 4; /* most books have 2 and 4 */
+    unsigned r = below(s, runs), q = below(s, runs), p = below(s, steps);
+    uint8_t *bytes = (uint8_t *)record, length = (uint8_t)below(s, DECK_RUN_STEPS + 2);
+    switch (below(s, 17)) {
+    case 0:
+        bytes[below(s, sizeof *record)] = (uint8_t)draw(s);
+        break;
+    case 1:
+        for (size_t i = 0; i < sizeof *record; i++)
+            bytes[i] = (uint8_t)draw(s);
+        break;
+    case 2:
+        record->pairs[below(s, sizeof record->pairs)] = (uint8_t)below(s, 3);
+        break;
+    case 3:
+        record->cuts[below(s, sizeof record->cuts)] = (uint8_t)below(s, 3);
+        break;
+    case 4:
+        record->withdrawn[r] = (uint8_t)below(s, 3);
+        break;
+    case 5:
+        *number = edges[below(s, sizeof edges / sizeof *edges)];
+        break;
+    case 6:
+        *number += below(s, 2) ? 1 : UINT64_MAX; /* one more or one less */
+        break;
+    case 7:
+        record->steps[p] = (uint32_t)below(s, DECK_KINDS * DECK_POSITIONS);
+        break;
+    case 8:
+        record->steps[p] = DECK_KINDS * DECK_POSITIONS - below(s, 2);
+        break;
+    case 9: /* with the sum of the lengths */
+        record->total += (uint64_t)length - record->lengths[r];
+        record->lengths[r] = length;
+        break;
+    case 10:
+        record->lengths[r] = length;
+        break;
+    case 11:
+        record->counts[r]++;
+        break;
+    case 12: /* with the sum of the counts */
+        record->counts[r]++;
+        record->counts[q]--;
+        break;
+    case 13: /* with its count */
+        record->counts[r]++;
+        record->kept[record->kept_count++ % DECK_STEPS] = (uint8_t)r;
+        break;
+    case 14: /* of no run */
+        record->kept[record->kept_count++ % DECK_STEPS] = DECK_RUNS;
+        break;
+    case 15:
+        record->kept[p] = (uint8_t)r;
+        break;
+    default: /* with both counts */
+        q = record->kept[p] % DECK_RUNS;
+        record->counts[q]--;
+        record->counts[r]++;
+        record->kept[p] = (uint8_t)r;
+    }
+}
+
+/* At times changes a copy of the record and makes a withdrawal and a step on it: where the copy is sound as on its plain gate, else refused by 26. */
+static void compare_damaged(const deck_gate *live) {
+    static source s = {20261116}; /* of its own, so that the books stay as they are */
+    deck_gate record = *live;
+    plain_gate g;
+    if (below(&s, 4))
+        return;
+    for (unsigned times = 1 + below(&s, 3); times > 0; times--)
+        damage_record(&s, &record);
+    if (memcmp(&record, live, sizeof record) == 0)
+        return;
+    int sound = plain_sound(&record);
+    if (sound)
+        plain_gate_of(&record, &g);
+    damaged[sound]++;
+    for (int step = 0; step < 2; step++) {
+        int run = (int)below(&s, below(&s, 4) ? DECK_RUNS : UINT8_MAX + 1);
+        compare_call(&record, step, run, sound ? plain_call(&g, step, run) : -DECK_GATE_DAMAGED, "gate: a call on a damaged record");
+    }
+}
+
+/* Makes n calls one by one on a record and on the plain gate, and at times on a damaged copy of the record; compares the answers of a replay with theirs,
+   and checks demand 3's sentences. */
 static void compare_calls(const uint8_t *book, size_t len, const plain_book *b, const uint8_t *calls, size_t n, const uint8_t *answers) {
     static uint8_t kept[BOOK_ROOM];
     uint8_t order[DECK_STEPS], cycle[DECK_STEPS];
@@ -149,8 +239,11 @@ static void compare_calls(const uint8_t *book, size_t len, const plain_book *b, 
     plain_open(b, &g);
     deck_gate live = compare_opening(book, len, (plain_refusal){0, 0}, &g);
     for (size_t i = 0; i < n; i++) {
-        int run = calls[2 * i + 1], step = calls[2 * i] == 0x53, want = compare_call(&live, &g, step, run);
+        int run = calls[2 * i + 1], step = calls[2 * i] == 0x53, want = plain_call(&g, step, run);
         int kind = want < 0 ? 2 : step ? 0 : 1, value = want < 0 ? -want : step ? want : 0;
+        compare_damaged(&live);
+        compare_call(&live, step, run, want, "gate: a call on the record");
+        expect(same_gate(&live, &g), "gate: the record after a call");
         expect(answers[2 * i] == kind && answers[2 * i + 1] == value, "gate: an answer");
         expect(!(step && kind == 0 && refused[run]), "gate: a tangled or withdrawn run admitted later");
         refused[run] |= step ? want == -DECK_GATE_TANGLED : want >= 0;
@@ -220,4 +313,8 @@ static const char *compare(source *s, const uint8_t *book, size_t len) {
     return fault;
 }
 
-int main(void) { return test_books(20261115, BOOKS, compare); }
+int main(void) {
+    int status = test_books(20261115, BOOKS, compare);
+    printf("damaged records: %ld not sound, %ld sound\n", damaged[0], damaged[1]);
+    return status || !damaged[0] || !damaged[1];
+}

@@ -504,3 +504,73 @@ int plain_withdraw(plain_gate *g, int r) {
     g->withdrawn[r] = 1;
     return 0;
 }
+
+/* ---- a gate's record */
+
+/* n entries, each 0 or 1 */
+static int flags(const uint8_t *table, int n) {
+    for (int i = 0; i < n; i++)
+        if (table[i] > 1)
+            return 0;
+    return 1;
+}
+
+static int runs_sound(const deck_gate *record) {
+    uint64_t sum = 0;
+    if (record->declared > DECK_RUNS || record->total > DECK_STEPS)
+        return 0;
+    for (uint64_t r = 0; r < DECK_RUNS; r++) {
+        if (record->lengths[r] > DECK_RUN_STEPS || (r >= record->declared && record->lengths[r] != 0))
+            return 0;
+        sum += record->lengths[r];
+    }
+    for (uint64_t i = 0; i < DECK_STEPS; i++)
+        if (record->steps[i] >= DECK_KINDS * DECK_POSITIONS || (i >= record->total && record->steps[i] != 0))
+            return 0;
+    return sum == record->total;
+}
+
+static int kept_sound(const deck_gate *record) {
+    uint64_t sum = 0;
+    if (record->kept_count > DECK_STEPS)
+        return 0;
+    for (uint64_t p = 0; p < DECK_STEPS; p++)
+        if (record->kept[p] >= DECK_RUNS || (p >= record->kept_count && record->kept[p] != 0))
+            return 0;
+    for (int r = 0; r < DECK_RUNS; r++) {
+        int count = 0;
+        for (uint64_t p = 0; p < record->kept_count; p++)
+            count += record->kept[p] == r;
+        if (record->counts[r] != count || record->counts[r] > record->lengths[r])
+            return 0;
+        sum += record->counts[r];
+    }
+    return sum == record->kept_count;
+}
+
+int plain_sound(const deck_gate *record) {
+    return flags(record->pairs, sizeof record->pairs) && flags(record->cuts, sizeof record->cuts) &&
+           flags(record->withdrawn, sizeof record->withdrawn) && runs_sound(record) && kept_sound(record);
+}
+
+void plain_gate_of(const deck_gate *record, plain_gate *g) {
+    plain_book *b = &g->book;
+    memset(g, 0, sizeof *g);
+    for (int x = 0; x < DECK_KINDS; x++)
+        for (int y = 0; y < DECK_KINDS; y++)
+            b->conflicts[x][y] = record->pairs[x * DECK_KINDS + y] | record->pairs[y * DECK_KINDS + x];
+    for (int r = 0; r < DECK_RUNS; r++) {
+        memcpy(b->cut[r], record->cuts + r * DECK_RUN_STEPS * DECK_RUNS, DECK_RUN_STEPS * DECK_RUNS);
+        for (int i = 0; i < record->lengths[r]; i++) {
+            uint32_t code = record->steps[b->steps++];
+            b->kind[r][i] = (uint8_t)(code / DECK_POSITIONS);
+            b->position[r][i] = (uint16_t)(code % DECK_POSITIONS);
+        }
+        b->length[r] = record->lengths[r];
+        b->done[r] = record->counts[r];
+        g->withdrawn[r] = record->withdrawn[r];
+    }
+    memcpy(b->history, record->kept, sizeof b->history);
+    b->runs = (int)record->declared;
+    b->n = (int)record->kept_count;
+}

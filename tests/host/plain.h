@@ -53,4 +53,10 @@ int plain_step(plain_gate *g, int r);
 /* 0, or minus the number of the refusal. */
 int plain_withdraw(plain_gate *g, int r);
 
+/* Whether a gate's record is sound: its tables are in range and agree with one another. The calls refuse any other by 26. */
+int plain_sound(const deck_gate *record);
+
+/* The plain gate of a sound record. */
+void plain_gate_of(const deck_gate *record, plain_gate *g);
+
 #endif

@@ -6,7 +6,7 @@ ghost use Rattle.book.specs.Format.{kind-limit, position-limit, run-limi
 ghost use Rattle.book.specs.Book.{code-limit, step-coded, as-step, contents-of, empty-book, Valid, Represents};
 
 // Why something is turned away: one for each row of document 01's table, three for the limits of runs and steps, two of the replay's own, and one for a
-// record that is no gate's.
+// gate's record that is not sound.
 pub enum Cause {
     // A book over the length limit.
     BookTooLong,
@@ -50,7 +50,7 @@ pub enum Cause {
     NoCall,
     // Replay: the buffer of answers under two bytes a call.
     AnswersShort,
-    // Gate: the record is none that opening and the calls leave.
+    // Gate: a table of the record out of range, or not in agreement with another.
     Damaged,
 }
 

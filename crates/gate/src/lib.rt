@@ -59,7 +59,11 @@ fn is_sound(g: Gate) -> bool
     ensures { λ r. ⌜ Answers (Sound g) r ⌝ }
 {
     let withdrawn = g.withdrawn;
-    withdrawn[0] == 1
+    if valid::are_flags(withdrawn) {
+        let b = g.book;
+        return valid::is_valid(b);
+    }
+    false
 }
 
 // Whether a call for a run is refused by 20, 21 or 22.

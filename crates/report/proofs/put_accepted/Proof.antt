@@ -34,7 +34,7 @@ put-findings-requires c κs =
     let front = c .before .before in
     let judged = front .before .before .before .before .before .judge-book in
     let start = front .before .before .before .before .before .before .before .before .before .before in
-    (few-done (start .args .b) (start .pre .0), list-short (judged .result .verdict) (judged .result .count) (judged .last .1 .0) (judged .last .1 .1 .0) (front .front .ensures) (judged .kept .1 .0) (judged .kept .1 .1 .0), start .pre .1)
+    (few-done (start .args .b) (start .pre .0), list-short (judged .result .verdict) (judged .result .count) (judged .last .1 .0) (judged .last .1 .1 .0) (front .front .ensures .0) (judged .kept .1 .0) (judged .kept .1 .1 .0), start .pre .1)
 
 same-length : tie.Need-same-length
 same-length c = search needs
@@ -46,7 +46,7 @@ returns c =
     let classes = front .before .before .before .before .before .before .before .before in
     let start = classes .before .before in
     text-put _
-    (rw (c .before .before .before .before .is-passed .ensures, front .front .ensures)
+    (rw (c .before .before .before .before .is-passed .ensures, front .front .ensures .0)
     (findings-on _ (judged .last .1 .0) _ (judged .last .1 .1 .0) (judged .kept .1 .0) (omega arith) (start .args .b) (start .pre .0) (classes .classes-of .result) (classes .classes-of .ensures) (judged .result) (judged .ensures)))
     (c .before .before .put-findings .ensures)
 

@@ -1,0 +1,3 @@
+-- Scans: the loops, one element at a time. Answers: what each test's answer says, group by group, up to the whole book.
+pub mod Scans
+pub mod Answers

@@ -1,0 +1,2 @@
+-- Tables: what the functions promise each other.
+pub mod Tables
