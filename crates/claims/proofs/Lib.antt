@@ -1,2 +1,4 @@
--- The demands hold.
+-- Table: document 01's table of a book's refusals is the format. Refusals: demand 1. Demands: demands 2 and 3, and the twelve rows.
+pub mod Table
+pub mod Refusals
 pub mod Demands

@@ -1,68 +1,95 @@
 -- The demands, sentence by sentence, as statements about every answer that meets the public calls' contracts. What the calls' own proofs say
 -- besides, for every input: they never trap, they end, and they touch no memory but the lent buffers. Demand 3 is gate's `Demand3`
 -- (crates/gate/specs/Demand.antt), and the twelve rows are theory's `TwelveHistories` (crates/theory/specs/Rows.antt); both stand there once.
-use Prim.Native.Nat.{ℕ, _≤_, _<_}
+use Prim.Native.Nat.{ℕ, _≤_}
 use mathlib.Core.Path.{_≡_}
-use mathlib.Core.Logic.{_⊎_, _≢_, _↔_}
+use mathlib.Core.Logic.{_≢_, _↔_}
 use mathlib.Core.List.{List, []}
 use lib.ListN.{length, take}
 use Rattle.theory.specs.Relative.{ConflictSerializable, RelativelySerialOrder, RelativelySerializable}
 use Rattle.theory.specs.Graph.{Cycle}
-use Rattle.book.specs.Format.{Bytes, Contents, nothing, refused, accepted, step-limit, read}
-use Rattle.book.specs.Numbers.{number}
+use Rattle.buffer.specs.Put.{Put}
+use Rattle.book.specs.Format.{Bytes, Contents, nothing, accepted, step-limit, read}
+use Rattle.book.specs.Numbers.{Numbers, reading-numbers}
 use Rattle.book.specs.Meaning.{conflict-of, unit-of}
-use Rattle.book.specs.Book.{empty-book, ReadAs}
-use Rattle.book.specs.declared.Cause.{Cause}
-use Rattle.book.specs.declared.Cause.the-variants.{JudgeBufferShort, WriterBufferShort}
+use Rattle.book.specs.Book.{empty-book, outcome-of, ReadAs}
 use Rattle.book.specs.declared.Reading.{Reading}
-use Rattle.book.specs.declared.Answer.the-variants.{Refused as NotRead}
-use Rattle.writer.specs.Written.{Wrote}
+use Rattle.writer.specs.Written.{written-numbers, Wrote}
 use Rattle.writer.specs.declared.Written.{Written}
-use Rattle.writer.specs.declared.Written.the-variants.{Refused as NotWritten}
+use Rattle.judge.specs.Judged.{verdict-numbers}
 use Rattle.judge.specs.Judge.{BytesJudged}
 use Rattle.judge.specs.declared.Judgement.{Judgement}
-use Rattle.judge.specs.declared.Verdict.the-variants.{Passed, Refused as NotJudged}
-use Rattle.classes.specs.Tested.{TestedAs}
+use Rattle.judge.specs.declared.Verdict.the-variants.{Passed}
+use Rattle.classes.specs.Tested.{tested-numbers, TestedAs}
 use Rattle.classes.specs.declared.Tested.{Tested}
-use Rattle.classes.specs.declared.Tested.the-variants.{Refused as NotTested}
-use Rattle.gate.specs.Plain.{Call, Answer as PlainAnswer, newly-opened, PlainCall, refused as refused-by}
-use Rattle.gate.specs.Gate.{book-of, state-of, Sound, OpenedAs, CalledAs}
+use Rattle.gate.specs.Plain.{Call, Answer as PlainAnswer, newly-opened}
+use Rattle.gate.specs.Gate.{reply-numbers, book-of, state-of, opening-numbers, OpenedAs, CalledAs}
 use Rattle.gate.specs.Chain.{Chain}
 use Rattle.gate.specs.Demand.{Demand3}
-use Rattle.gate.specs.Replay.{Replays}
+use Rattle.gate.specs.Replay.{played-numbers, Replays}
 use Rattle.gate.specs.declared.Gate.{Gate}
 use Rattle.gate.specs.declared.Opened.{Opened}
 use Rattle.gate.specs.declared.Replayed.{Replayed}
-use Rattle.gate.specs.declared.Played.the-variants.{Done, Refused as NotReplayed}
-use Rattle.gate.specs.declared.Reply.the-variants.{Refused as CallRefused}
+use Rattle.gate.specs.declared.Reply.{Reply}
+use Rattle.report.specs.Text.{Findings, refused-at, accepted-with, text-of}
+use Rattle.report.specs.Reporting.{Reports}
+use Rattle.capi.specs.Calls.{ReadCall, TestCall, JudgeCall, WriteCall, OpenCall, GateCall, ReplayCall}
+use Rattle.capi.specs.declared.Answered.{Answered}
+use Rattle.capi.specs.declared.Judged.{Judged}
+use Rattle.capi.specs.declared.OpenedGate.{OpenedGate}
+use Rattle.claims.specs.Table.{BookRow, NoRow, JudgeRow, WriterRow, GateRow, ReplayRow}
 
--- Demand 1. Nothing refused changes a buffer or the gate, and each refusal has the number and place in document 01: the cause and place of
--- the format, whose numbers book's `number` gives.
-pub record Demand1 : Type 0 where
-  pub reader : (s : List ℕ) (r : Reading) (cause : Cause) (place : ℕ) → ReadAs (read s) r → read s ≡ refused cause place → (r .answer ≡ NotRead cause place) × (r .book ≡ empty-book)
-  -- 12 comes first, then 1 to 11
-  pub judge-short : (s order order′ cycle cycle′ : List ℕ) (r : Judgement) → BytesJudged order order′ cycle cycle′ s r
-      → (length order < step-limit) ⊎ (length cycle < step-limit) → r .verdict ≡ NotJudged JudgeBufferShort 0
-  pub judge-refused : (s order order′ cycle cycle′ : List ℕ) (r : Judgement) (cause : Cause) (place : ℕ) → BytesJudged order order′ cycle cycle′ s r
-      → step-limit ≤ length order → step-limit ≤ length cycle → read s ≡ refused cause place → r .verdict ≡ NotJudged cause place
-  pub judge-unchanged : (s order order′ cycle cycle′ : List ℕ) (r : Judgement) (cause : Cause) (place : ℕ) → BytesJudged order order′ cycle cycle′ s r
-      → r .verdict ≡ NotJudged cause place → (order′ ≡ order) × (cycle′ ≡ cycle) × (r .count ≡ 0)
-  -- 1 to 11 come first, then 13
-  pub writer-refused : (s before after : List ℕ) (r : Written) (cause : Cause) (place : ℕ) → Wrote s before after r → read s ≡ refused cause place → r ≡ NotWritten cause place
-  pub writer-short : (s before after : List ℕ) (r : Written) (c : Contents) → Wrote s before after r → read s ≡ accepted c → length before < length s → r ≡ NotWritten WriterBufferShort 0
-  pub writer-unchanged : (s before after : List ℕ) (cause : Cause) (place : ℕ) → Wrote s before after (NotWritten cause place) → after ≡ before
-  -- a refused opening hands back, beside number and place, the gate of a book without runs
-  pub opening-refused : (s : List ℕ) (o : Opened) (cause : Cause) (place : ℕ) → OpenedAs (read s) o → read s ≡ refused cause place
-      → (o .answer ≡ NotRead cause place) × (book-of (o .gate) ≡ nothing) × (state-of (o .gate) ≡ newly-opened)
-  -- step and withdraw: the number is the plain gate's, and no byte of the record changes
-  pub gate-refused : (g h : Gate) (x : Call) (cause : Cause) → CalledAs g x (CallRefused cause) h → PlainCall (book-of g) (state-of g) x (refused-by (number cause)) (state-of h)
-  pub gate-unchanged : (g h : Gate) (x : Call) (cause : Cause) → Sound g → CalledAs g x (CallRefused cause) h → h ≡ g
-  pub replay-refused : (s calls before after : List ℕ) (r : Replayed) (cause : Cause) (place : ℕ) → Replays s calls before after r → read s ≡ refused cause place → r .played ≡ NotReplayed cause place
-  pub replay-unchanged : (s calls before after : List ℕ) (r : Replayed) → Replays s calls before after r → ((n : ℕ) → r .played ≢ Done n) → after ≡ before
+-- Demand 1, of a call that answers the numbers n, where the rows R of document 01's table (Table) are its refusals, and Unchanged says that every lent byte
+-- and the record are as at entry.
+pub record TurnsAway (R : ℕ → ℕ → Type 0) (n : Numbers) (Unchanged : Type 0) : Type 0 where
+  -- Each refusal has the number and place in document 01,
+  pub row : n .number ≢ 0 → R (n .number) (n .place)
+  pub no-value : n .number ≢ 0 → n .value ≡ 0
+  -- and nothing refused changes a buffer or the gate.
+  pub unchanged : n .number ≢ 0 → Unchanged
+  -- Where a row applies, the call is refused with its number, at its place.
+  pub refused-by : (m place : ℕ) → R m place → (n .number ≡ m) × (n .place ≡ place)
 
--- Demand 1 of a class test, the order check, the cycle check or the arc test, which asks whether the contents have the property P: 1 to 11.
-pub record Demand1Test (P : Contents → Type 0) : Type 0 where
-  pub test-refused : (s : List ℕ) (r : Tested) (cause : Cause) (place : ℕ) → TestedAs P s r → read s ≡ refused cause place → r ≡ NotTested cause place
+-- a refused opening hands back, beside number and place, the gate of a book without runs
+pub record WithoutRuns (g : Gate) : Type 0 where
+  pub book : book-of g ≡ nothing
+  pub state : state-of g ≡ newly-opened
+
+-- the answers of the calls for C in numbers
+abbrev pub answered-numbers : Answered → Numbers
+answered-numbers r = record { number = r .number; place = r .place; value = r .value }
+
+abbrev pub judged-numbers : Judged → Numbers
+judged-numbers r = record { number = r .number; place = r .place; value = r .verdict }
+
+abbrev pub opened-numbers : OpenedGate → Numbers
+opened-numbers r = record { number = r .number; place = r .place; value = 0 }
+
+-- Demand 1 of every call: what it promises of its result, and its refusals.
+pub record Demand1 : Type 1 where
+  pub read-book : (s : List ℕ) (r : Reading) → ReadAs (read s) r → TurnsAway (BookRow s) (reading-numbers (outcome-of r)) (r .book ≡ empty-book)
+  pub deck-read : (s : List ℕ) (r : Answered) → ReadCall s r → TurnsAway (BookRow s) (answered-numbers r) (Unit {0})
+  pub judge-book : (s order order′ cycle cycle′ : List ℕ) (r : Judgement) → BytesJudged order order′ cycle cycle′ s r
+      → TurnsAway (JudgeRow s order cycle) (verdict-numbers (r .verdict)) ((order′ ≡ order) × (cycle′ ≡ cycle) × (r .count ≡ 0))
+  pub deck-judge : (s order order′ cycle cycle′ : List ℕ) (r : Judged) → JudgeCall s order order′ cycle cycle′ r
+      → TurnsAway (JudgeRow s order cycle) (judged-numbers r) ((order′ ≡ order) × (cycle′ ≡ cycle) × (r .count ≡ 0))
+  -- the four class tests, the order check, the cycle check and the arc test; P is what they ask of the contents
+  pub test-book : (P : Contents → Type 0) (s : List ℕ) (r : Tested) → TestedAs P s r → TurnsAway (BookRow s) (tested-numbers r) (Unit {0})
+  pub deck-test : (P : Contents → Type 0) (s : List ℕ) (r : Answered) → TestCall P s r → TurnsAway (BookRow s) (answered-numbers r) (Unit {0})
+  pub write-book : (s out out′ : List ℕ) (r : Written) → Wrote s out out′ r → TurnsAway (WriterRow s out) (written-numbers r) (out′ ≡ out)
+  pub deck-write : (s out out′ : List ℕ) (r : Answered) → WriteCall s out out′ r → TurnsAway (WriterRow s out) (answered-numbers r) (out′ ≡ out)
+  pub open-gate : (s : List ℕ) (o : Opened) → OpenedAs (read s) o → TurnsAway (BookRow s) (opening-numbers (o .answer)) (WithoutRuns (o .gate))
+  pub deck-open : (s : List ℕ) (r : OpenedGate) → OpenCall s r → TurnsAway (BookRow s) (opened-numbers r) (WithoutRuns (r .gate))
+  -- step and withdraw, on any record
+  pub call-gate : (g h : Gate) (x : Call) (a : Reply) → CalledAs g x a h → TurnsAway (GateRow g x) (reply-numbers a) (h ≡ g)
+  pub deck-call : (g h : Gate) (x : Call) (r : Answered) → GateCall x g h r → TurnsAway (GateRow g x) (answered-numbers r) (h ≡ g)
+  pub replay-calls : (s calls answers answers′ : List ℕ) (r : Replayed) → Replays s calls answers answers′ r
+      → TurnsAway (ReplayRow s calls answers) (played-numbers (r .played)) ((answers′ ≡ answers) × (state-of (r .gate) ≡ newly-opened))
+  pub deck-replay : (s calls answers answers′ : List ℕ) (r : Answered) → ReplayCall s calls answers answers′ r
+      → TurnsAway (ReplayRow s calls answers) (answered-numbers r) (answers′ ≡ answers)
+  -- the program's text, in a buffer that is always long enough: of a refused book its number and place alone
+  pub report-refused : (s text text′ : List ℕ) (n : ℕ) → Reports (read s) text text′ n → (m place : ℕ) → BookRow s m place → Put (text-of (refused-at m place)) text text′ n
+  pub report-accepted : (s text text′ : List ℕ) (n : ℕ) → Reports (read s) text text′ n → NoRow s → (w : Findings) × Put (text-of (accepted-with w)) text text′ n
 
 -- Demand 2, of a judgement r on the bytes of a book with contents c, and of the buffers after the call.
 pub record Demand2 (c : Contents) (order′ cycle′ : List ℕ) (r : Judgement) : Type 0 where

@@ -1,2 +1,3 @@
 -- The demands, over what the public calls promise.
+pub mod Table
 pub mod Demands
