@@ -1,4 +1,6 @@
--- Table: document 01's table of a book's refusals is the format. Refusals: demand 1. Demands: demands 2 and 3, and the twelve rows.
+-- Table: document 01's table of a book's refusals is the format. Refusals: demand 1. Demands: demands 2 and 3, and the twelve rows. Determined: two results
+-- that meet a call's contract are equal.
 pub mod Table
 pub mod Refusals
 pub mod Demands
+pub mod Determined

@@ -336,7 +336,8 @@ reached {s} (behind {at} {t} {c} r h k f) =
     let i : width c ≤ length s - at = leb-true (width c) (length s - at) (all .0) in
     reached-on s at (width c) t c (width-positive c) (omega arith) (command-there s at t h k ∙ checks-hold ts at (obeyed c at t) all) (a .left) (a .same) (a .enough)
 
-refused-there : {s : List ℕ} {at : ℕ} {t : ReadState} (cause : Cause) (p : ℕ) → length s ≤ 16384 → ReadTo s at t → command-at deck-rules s at t ≡ over (refused cause p) → read s ≡ refused cause p
+refused-there : {s : List ℕ} {at : ℕ} {t : ReadState} (cause : Cause) (p : ℕ) → length s ≤ 16384 → ReadTo s at t
+    → command-at deck-rules s at t ≡ over (refused cause p) → read s ≡ refused cause p
 unfolding read-by read-from
 refused-there {s} cause p short r e = let h = reached r in rw (le-leb (length s) 16384 short) (h .same ∙ rw e)
 

@@ -1,3 +1,6 @@
--- The demands, over what the public calls promise.
+-- Table: document 01's table of refusals. Demands: the demands, over what the public calls promise. Results: the demands as contracts of functions that make
+-- the calls. Determined: a call's promise fixes its whole result.
 pub mod Table
 pub mod Demands
+pub mod Results
+pub mod Determined

@@ -1,0 +1,91 @@
+-- A public call promises all of its result (document 01, "How much does a public call promise?"): any two results that meet its contract on the
+-- same input are equal, answer, lent bytes and record. Only the judge's choice of a cycle is open, in its buffer and in a report.
+use Prim.Native.Nat.{ℕ}
+use mathlib.Core.Path.{_≡_}
+use mathlib.Core.Logic.{_≢_}
+use mathlib.Core.List.{List, []}
+use lib.ListN.{drop}
+use Rattle.theory.specs.Relative.{RelativelySerializable}
+use Rattle.book.specs.Format.{Contents, Outcome, accepted}
+use Rattle.book.specs.Numbers.{value-of}
+use Rattle.book.specs.Meaning.{conflict-of, unit-of}
+use Rattle.book.specs.Book.{ReadAs}
+use Rattle.judge.specs.Judge.{BytesJudged}
+use Rattle.judge.specs.declared.Judgement.{Judgement}
+use Rattle.judge.specs.declared.Verdict.the-variants.{Tangled}
+use Rattle.classes.specs.Tested.{TestedAs}
+use Rattle.writer.specs.Written.{Wrote}
+use Rattle.gate.specs.Plain.{Call}
+use Rattle.gate.specs.Gate.{OpenedAs, CalledAs}
+use Rattle.gate.specs.Replay.{Replays}
+use Rattle.gate.specs.declared.Gate.{Gate}
+use Rattle.report.specs.Text.{Report, refused-at, accepted-with, Verdict as ReportVerdict, passed, tangled}
+use Rattle.report.specs.Reporting.{Reports}
+use Rattle.capi.specs.Calls.{ReadCall, TestCall, JudgeCall, WriteCall, OpenCall, GateCall, ReplayCall}
+use Rattle.capi.specs.declared.Judged.{Judged}
+use Rattle.claims.specs.Demands.{judged-numbers}
+
+-- ---- the shapes of the statements
+
+-- two results that meet the contract are equal
+abbrev pub AtMostOne : {R : Type 0} → (R → Type 0) → Type 0
+AtMostOne {R} Meets = (r r′ : R) → Meets r → Meets r′ → r ≡ r′
+
+-- the same, of a contract on two things: an answer, and the lent bytes or the record after the call
+abbrev pub AtMostOnePair : {A B : Type 0} → (A → B → Type 0) → Type 0
+AtMostOnePair {A} {B} Meets = (a a′ : A) (b b′ : B) → Meets a b → Meets a′ b′ → (a ≡ a′) × (b ≡ b′)
+
+-- two results of the judge, each with its verdict, count, and order and cycle buffers after the call: equal, but for the cycle of a tangled history,
+-- which is the first bytes of the cycle buffer, as many as the count
+pub record EqualButCycle {A : Type 0} (tangled v v′ : A) (count count′ : ℕ) (order order′ cycle cycle′ : List ℕ) : Type 0 where
+  pub verdicts : v ≡ v′
+  pub orders : order ≡ order′
+  pub counts : v ≢ tangled → count ≡ count′
+  pub cycles : v ≢ tangled → cycle ≡ cycle′
+
+-- a report without the places of its cycle
+abbrev pub verdict-alone : ReportVerdict → ReportVerdict
+verdict-alone (passed order) = passed order
+verdict-alone (tangled cycle) = tangled []
+
+abbrev pub without-cycle : Report → Report
+without-cycle (refused-at number place) = refused-at number place
+without-cycle (accepted-with w) = accepted-with (record { done = w .done; serial = w .serial; atomic = w .atomic; relserial = w .relserial; conflict = w .conflict; verdict = verdict-alone (w .verdict) })
+
+-- ---- the calls
+
+-- s is the bytes of a book, o the outcome of reading one, P what a test asks of a book's contents
+pub record Determined : Type 1 where
+  -- the answer and the book
+  pub reading : (o : Outcome) → AtMostOne (ReadAs o)
+  -- order and cycle are the buffers before both calls, order′ and cycle′ after the one, order″ and cycle″ after the other
+  pub judging : (s order order′ order″ cycle cycle′ cycle″ : List ℕ) (r r′ : Judgement)
+      → BytesJudged order order′ cycle cycle′ s r → BytesJudged order order″ cycle cycle″ s r′
+      → EqualButCycle Tangled (r .verdict) (r′ .verdict) (r .count) (r′ .count) order′ order″ cycle′ cycle″
+  -- what lies behind the cycle is as before
+  pub judging-rest : (s order order′ cycle cycle′ : List ℕ) (r : Judgement) → BytesJudged order order′ cycle cycle′ s r → drop (r .count) cycle′ ≡ drop (r .count) cycle
+  -- the four class tests, the order check, the cycle check and the arc test
+  pub testing : (P : Contents → Type 0) (s : List ℕ) → AtMostOne (TestedAs P s)
+  -- the buffer and the answer
+  pub writing : (s before : List ℕ) → AtMostOnePair (Wrote s before)
+  -- the answer and the record
+  pub opening : (o : Outcome) → AtMostOne (OpenedAs o)
+  -- step and withdraw, on any record: the answer and the record at exit
+  pub calling : (g : Gate) (x : Call) → AtMostOnePair (CalledAs g x)
+  -- the buffer, the answer and the record
+  pub replaying : (s calls before : List ℕ) → AtMostOnePair (Replays s calls before)
+  -- the report whose text is put, but for the places of a cycle
+  pub reporting : (o : Outcome) (before x x′ : List ℕ) (n n′ : ℕ) (w : Reports o before x n) (w′ : Reports o before x′ n′) → without-cycle (w .report) ≡ without-cycle (w′ .report)
+  -- the buffer and the text's length, where no cycle is printed: the book is refused, or its history relatively serializable
+  pub reporting-uncyclic : (o : Outcome) (before : List ℕ) → ((c : Contents) → o ≡ accepted c → RelativelySerializable (conflict-of c) (unit-of c) (c .history)) → AtMostOnePair (Reports o before)
+  -- the same of the calls for C
+  pub c-reading : (s : List ℕ) → AtMostOne (ReadCall s)
+  pub c-judging : (s order order′ order″ cycle cycle′ cycle″ : List ℕ) (r r′ : Judged)
+      → JudgeCall s order order′ cycle cycle′ r → JudgeCall s order order″ cycle cycle″ r′
+      → EqualButCycle (value-of 2) (judged-numbers r) (judged-numbers r′) (r .count) (r′ .count) order′ order″ cycle′ cycle″
+  pub c-judging-rest : (s order order′ cycle cycle′ : List ℕ) (r : Judged) → JudgeCall s order order′ cycle cycle′ r → drop (r .count) cycle′ ≡ drop (r .count) cycle
+  pub c-testing : (P : Contents → Type 0) (s : List ℕ) → AtMostOne (TestCall P s)
+  pub c-writing : (s before : List ℕ) → AtMostOnePair (WriteCall s before)
+  pub c-opening : (s : List ℕ) → AtMostOne (OpenCall s)
+  pub c-calling : (x : Call) (g : Gate) → AtMostOnePair (GateCall x g)
+  pub c-replaying : (s calls before : List ℕ) → AtMostOnePair (ReplayCall s calls before)

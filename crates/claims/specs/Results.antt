@@ -1,0 +1,70 @@
+-- The demands of what the functions of this crate return: each makes the public calls and answers their results.
+use Prim.Native.Nat.{ℕ, _*_, _≤_}
+use mathlib.Core.Path.{_≡_}
+use mathlib.Core.List.{List}
+use lib.ListN.{length, take}
+use Rattle.buffer.specs.Put.{Put}
+use Rattle.book.specs.Format.{Contents, accepted, step-limit, read}
+use Rattle.judge.specs.declared.Judgement.{Judgement}
+use Rattle.gate.specs.Plain.{Call, step, withdraw}
+use Rattle.gate.specs.Gate.{reply-numbers, state-of}
+use Rattle.gate.specs.Demand.{Demand3}
+use Rattle.gate.specs.Replay.{calls-of, answers-in}
+use Rattle.gate.specs.declared.Gate.{Gate}
+use Rattle.gate.specs.declared.Called.{Called}
+use Rattle.gate.specs.declared.Replayed.{Replayed}
+use Rattle.gate.specs.declared.Played.the-variants.{Done}
+use Rattle.report.specs.Text.{Findings, refused-at, accepted-with, text-of}
+use Rattle.capi.specs.declared.Answered.{Answered}
+use Rattle.capi.specs.declared.Judged.{Judged}
+use Rattle.claims.specs.Table.{BookRow, NoRow, JudgeRow, WriterRow, GateRow, ReplayRow}
+use Rattle.claims.specs.Demands.{TurnsAway, WithoutRuns, answered-numbers, judged-numbers, opened-numbers, Demand2}
+use Rattle.claims.specs.declared.BookAnswers.{BookAnswers}
+use Rattle.claims.specs.declared.GateAnswers.{GateAnswers}
+
+-- the book's rows are this answer's refusals
+abbrev pub ByBook : List ℕ → Answered → Type 0
+ByBook s r = TurnsAway (BookRow s) (answered-numbers r) (Unit {0})
+
+-- demand 1 of the calls that read a book and change nothing
+pub record BookRefusals (s : List ℕ) (r : BookAnswers) : Type 0 where
+  pub read : ByBook s (r .read)
+  pub serial : ByBook s (r .serial)
+  pub atomic : ByBook s (r .atomic)
+  pub relserial : ByBook s (r .relserial)
+  pub conflict : ByBook s (r .conflict)
+  pub order : ByBook s (r .order)
+  pub cycle : ByBook s (r .cycle)
+  pub arc : ByBook s (r .arc)
+  pub opened : TurnsAway (BookRow s) (opened-numbers (r .opened)) (WithoutRuns (r .opened .gate))
+
+-- of the judge, the writer, the replay and the program's text, with the lent bytes before and after the call
+pub record JudgeRefusals (s order order′ cycle cycle′ : List ℕ) (r : Judged) : Type 0 where
+  pub judged : TurnsAway (JudgeRow s order cycle) (judged-numbers r) ((order′ ≡ order) × (cycle′ ≡ cycle) × (r .count ≡ 0))
+
+pub record WriteRefusals (s out out′ : List ℕ) (r : Answered) : Type 0 where
+  pub written : TurnsAway (WriterRow s out) (answered-numbers r) (out′ ≡ out)
+
+pub record ReplayRefusals (s calls answers answers′ : List ℕ) (r : Answered) : Type 0 where
+  pub replayed : TurnsAway (ReplayRow s calls answers) (answered-numbers r) (answers′ ≡ answers)
+
+pub record TextRefusals (s text text′ : List ℕ) (n : ℕ) : Type 0 where
+  pub refused : (m place : ℕ) → BookRow s m place → Put (text-of (refused-at m place)) text text′ n
+  pub accepted : NoRow s → (w : Findings) × Put (text-of (accepted-with w)) text text′ n
+
+-- of step and withdraw on any record
+pub record CallRefusals (g : Gate) (x : Call) (r : Called) : Type 0 where
+  pub call : TurnsAway (GateRow g x) (reply-numbers (r .answer)) (r .gate ≡ g)
+
+pub record GateRefusals (g : Gate) (run : ℕ) (r : GateAnswers) : Type 0 where
+  pub stepped : CallRefusals g (step run) (r .stepped)
+  pub withdrawn : CallRefusals g (withdraw run) (r .withdrawn)
+
+-- demand 2 of a judgement, where the book is accepted and the buffers are as long as the judge asks
+pub record Demand2Of (s order order′ cycle cycle′ : List ℕ) (r : Judgement) : Type 0 where
+  pub holds : (c : Contents) → read s ≡ accepted c → step-limit ≤ length order → step-limit ≤ length cycle → Demand2 c order′ cycle′ r
+
+-- demand 3 of a replay that was carried out, over the answers in the buffer and the record
+pub record Demand3Of (s calls answers′ : List ℕ) (r : Replayed) : Type 0 where
+  pub holds : (c : Contents) (n : ℕ) → read s ≡ accepted c → r .played ≡ Done n
+      → Demand3 s c (calls-of calls) (answers-in (take (2 * length (calls-of calls)) answers′)) (state-of (r .gate))
