@@ -33,17 +33,29 @@ module _ (c : Contents) (order order′ cycle cycle′ : List ℕ) where
       let k : n ≡ length l = j .count-is ∙ sym (order-length (c .history) l (j .evidence .equivalent .order)) in
       rw (j .order-is, k, take-append-seam l (drop (length (c .history)) order)) (j .evidence)
 
+  order-counted : (v : Verdict) (n : ℕ) → JudgedAs (conflict-of c) (unit-of c) (c .history) order order′ cycle cycle′ v n → v ≡ Passed → n ≡ length (c .history)
+  order-counted (NotJudged cause place) n j e = absurd j
+  order-counted Tangled n j e = let z : _≡_ {A = ℕ} 0 1 = cc in absurd (omega arith)
+  order-counted Passed n j e = j .count-is
+
   cycle-returned : (v : Verdict) (n : ℕ) → JudgedAs (conflict-of c) (unit-of c) (c .history) order order′ cycle cycle′ v n → v ≢ Passed
       → Cycle (conflict-of c) (unit-of c) (c .history) (take n cycle′)
   cycle-returned (NotJudged cause place) n j e = absurd j
   cycle-returned Passed n j e = absurd (e refl)
   cycle-returned Tangled n j e = rw (j .cycle-is, j .count-is, take-append-seam (j .places) (drop (length (j .places)) cycle)) (j .evidence)
 
+  cycle-counted : (v : Verdict) (n : ℕ) → JudgedAs (conflict-of c) (unit-of c) (c .history) order order′ cycle cycle′ v n → v ≢ Passed → n ≡ length (take n cycle′)
+  cycle-counted (NotJudged cause place) n j e = absurd j
+  cycle-counted Passed n j e = absurd (e refl)
+  cycle-counted Tangled n j e = rw (j .cycle-is, j .count-is, take-append-seam (j .places) (drop (length (j .places)) cycle))
+
 pub demand-2 : EveryJudgement
 demand-2 s c e order order′ cycle cycle′ r a b j = record {
   passes-exactly = bytes-passed order order′ cycle cycle′ s r j a b c e;
   order-returned = order-returned c order order′ cycle cycle′ (r .verdict) (r .count) judged;
+  order-counted = order-counted c order order′ cycle cycle′ (r .verdict) (r .count) judged;
   cycle-returned = cycle-returned c order order′ cycle cycle′ (r .verdict) (r .count) judged;
+  cycle-counted = cycle-counted c order order′ cycle cycle′ (r .verdict) (r .count) judged;
   uncut-exactly = uncut-passed order order′ cycle cycle′ s r j a b c e;
 }
   where

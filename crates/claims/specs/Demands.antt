@@ -65,7 +65,7 @@ judged-numbers r = record { number = r .number; place = r .place; value = r .ver
 abbrev pub opened-numbers : OpenedGate → Numbers
 opened-numbers r = record { number = r .number; place = r .place; value = 0 }
 
--- Demand 1 of every call: what it promises of its result, and its refusals.
+-- Demand 1 of every call: by its contract, its refusals are these rows. Unchanged is Unit where a call is lent nothing that it could write to.
 pub record Demand1 : Type 1 where
   pub read-book : (s : List ℕ) (r : Reading) → ReadAs (read s) r → TurnsAway (BookRow s) (reading-numbers (outcome-of r)) (r .book ≡ empty-book)
   pub deck-read : (s : List ℕ) (r : Answered) → ReadCall s r → TurnsAway (BookRow s) (answered-numbers r) (Unit {0})
@@ -98,8 +98,10 @@ pub record Demand2 (c : Contents) (order′ cycle′ : List ℕ) (r : Judgement)
   pub passes-exactly : (r .verdict ≡ Passed) ↔ RelativelySerializable (conflict-of c) (unit-of c) (c .history)
   -- It then returns such an order,
   pub order-returned : r .verdict ≡ Passed → RelativelySerialOrder (conflict-of c) (unit-of c) (c .history) (take (r .count) order′)
+  pub order-counted : r .verdict ≡ Passed → r .count ≡ length (c .history)
   -- and otherwise a cycle of the published graph.
   pub cycle-returned : r .verdict ≢ Passed → Cycle (conflict-of c) (unit-of c) (c .history) (take (r .count) cycle′)
+  pub cycle-counted : r .verdict ≢ Passed → r .count ≡ length (take (r .count) cycle′)
   -- Without cuts, it passes exactly the conflict serializable histories.
   pub uncut-exactly : c .cuts ≡ [] → (r .verdict ≡ Passed) ↔ ConflictSerializable (conflict-of c) (c .history)
 
