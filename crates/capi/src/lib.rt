@@ -1,7 +1,6 @@
 // The calls for programs in C, declared in include/deck.h: thin entries over byte slices that answer numbers.
 use book::Answer;
 use book::Cause;
-use book::Reading;
 use classes::Tested;
 use gate::Gate;
 use gate::Played;

@@ -79,9 +79,9 @@ one-order c l m v w f g = greedy-unique (conflict-of c) (unit-of c) (c .history)
 Lengths : List ℕ → List ℕ → Type 0
 Lengths order cycle = ((length order < step-limit) ⊎ (length cycle < step-limit)) ⊎ ((step-limit ≤ length order) × (step-limit ≤ length cycle))
 
-lengths : (order cycle : List ℕ) → Lengths order cycle
+long-or-short : (order cycle : List ℕ) → Lengths order cycle
 unfolding Lengths
-lengths order cycle = go (decLt (length order) step-limit) (decLt (length cycle) step-limit)
+long-or-short order cycle = go (decLt (length order) step-limit) (decLt (length cycle) step-limit)
   where
     go : Dec (length order < step-limit) → Dec (length cycle < step-limit) → Lengths order cycle
     go (yes h) d = inl (inl h)
@@ -114,7 +114,7 @@ module _ (order order′ order″ cycle cycle′ cycle″ : List ℕ) where
 
     bytes-equal : (s : List ℕ) → BytesJudged order order′ cycle cycle′ s r → BytesJudged order order″ cycle cycle″ s r′ → Equal
     unfolding Lengths
-    bytes-equal s j k = go (lengths order cycle)
+    bytes-equal s j k = go (long-or-short order cycle)
       where
         go : Lengths order cycle → Equal
         go (inl h) = refused-equal JudgeBufferShort 0 (j .short h) (k .short h)
@@ -132,7 +132,7 @@ module _ (order order′ cycle cycle′ : List ℕ) where
 
   bytes-rest : (s : List ℕ) (r : Judgement) → BytesJudged order order′ cycle cycle′ s r → drop (r .count) cycle′ ≡ drop (r .count) cycle
   unfolding Lengths
-  bytes-rest s r j = go (lengths order cycle)
+  bytes-rest s r j = go (long-or-short order cycle)
     where
       go : Lengths order cycle → drop (r .count) cycle′ ≡ drop (r .count) cycle
       go (inl h) = outcome-rest (refused JudgeBufferShort 0) r (j .short h)
@@ -324,6 +324,7 @@ all-determined = record {
   calling = one-call;
   replaying = one-replay;
   reporting = λ o before x x′ n n′ w w′. one-report o (w .report) (w′ .report) (w .report-on) (w′ .report-on);
+  reporting-rest = λ o before x n w. rw (w .put .bytes, w .put .count) (drop-append-seam (text-of (w .report)) (drop (length (text-of (w .report))) before));
   reporting-uncyclic = λ o before h x x′ n n′ w w′.
       let e : text-of (w .report) ≡ text-of (w′ .report) = ap text-of (cc (whole-report o h (w .report) (w .report-on), one-report o (w .report) (w′ .report) (w .report-on) (w′ .report-on), whole-report o h (w′ .report) (w′ .report-on))) in
       (cc (e, w .put .bytes, w′ .put .bytes), cc (e, w .put .count, w′ .put .count));

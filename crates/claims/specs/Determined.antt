@@ -1,5 +1,6 @@
 -- A public call promises all of its result (document 01, "How much does a public call promise?"): any two results that meet its contract on the
--- same input are equal, answer, lent bytes and record. Only the judge's choice of a cycle is open, in its buffer and in a report.
+-- same input are equal, answer, lent bytes and record. Only the judge's choice of a cycle is open, in its buffer and in a report. The judge's second call,
+-- `front`, is not here: its contract is two equations, of the part's bytes and of where it begins.
 use Prim.Native.Nat.{ℕ}
 use mathlib.Core.Path.{_≡_}
 use mathlib.Core.Logic.{_≢_}
@@ -76,6 +77,8 @@ pub record Determined : Type 1 where
   pub replaying : (s calls before : List ℕ) → AtMostOnePair (Replays s calls before)
   -- the report whose text is put, but for the places of a cycle
   pub reporting : (o : Outcome) (before x x′ : List ℕ) (n n′ : ℕ) (w : Reports o before x n) (w′ : Reports o before x′ n′) → without-cycle (w .report) ≡ without-cycle (w′ .report)
+  -- what lies behind the text is as before
+  pub reporting-rest : (o : Outcome) (before x : List ℕ) (n : ℕ) → Reports o before x n → drop n x ≡ drop n before
   -- the buffer and the text's length, where no cycle is printed: the book is refused, or its history relatively serializable
   pub reporting-uncyclic : (o : Outcome) (before : List ℕ) → ((c : Contents) → o ≡ accepted c → RelativelySerializable (conflict-of c) (unit-of c) (c .history)) → AtMostOnePair (Reports o before)
   -- the same of the calls for C

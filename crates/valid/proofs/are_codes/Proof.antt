@@ -1,6 +1,6 @@
 -- `are_codes` is right: each is below the limit where the largest is, and each from `end` on is 0 where the largest of them is.
 use borrow.Author.Needs.{needs}
-use Rattle.valid.proofs.Answers.{column-answer}
+use Rattle.valid.proofs.Testing.{column-answer}
 use Rattle.valid.proofs.are_codes.Statement.{statement}
 use Rattle.valid.proofs.are_codes.Tie as tie
 

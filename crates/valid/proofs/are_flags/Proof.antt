@@ -1,6 +1,6 @@
 -- `are_flags` is right: it is `flags_in` of a table of a known length.
 use borrow.Author.Needs.{needs}
-use Rattle.valid.proofs.Answers.{sized-flags}
+use Rattle.valid.proofs.Testing.{sized-flags}
 use Rattle.valid.proofs.are_flags.Statement.{statement}
 use Rattle.valid.proofs.are_flags.Tie as tie
 

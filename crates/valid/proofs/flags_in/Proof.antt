@@ -1,6 +1,6 @@
 -- `flags_in` is right: each is 0 or 1 where the largest is.
 use borrow.Author.Needs.{needs}
-use Rattle.valid.proofs.Answers.{flags-answer}
+use Rattle.valid.proofs.Testing.{flags-answer}
 use Rattle.valid.proofs.flags_in.Statement.{statement}
 use Rattle.valid.proofs.flags_in.Tie as tie
 

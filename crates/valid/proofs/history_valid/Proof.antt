@@ -1,6 +1,6 @@
 -- `history_valid` is right: it tests each part of `HistoryValid`, and no run above the limit stands in the history.
 use borrow.Author.Needs.{needs}
-use Rattle.valid.proofs.Answers.{history-long, history-answer}
+use Rattle.valid.proofs.Testing.{history-long, history-answer}
 use Rattle.valid.proofs.history_valid.Statement.{statement}
 use Rattle.valid.proofs.history_valid.Tie as tie
 

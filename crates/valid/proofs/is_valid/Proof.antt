@@ -1,6 +1,6 @@
 -- `is_valid` is right: it tests each part of `Valid`, and a valid book's history has room in its table.
 use borrow.Author.Needs.{needs}
-use Rattle.valid.proofs.Answers.{valid-answer}
+use Rattle.valid.proofs.Testing.{valid-answer}
 use Rattle.valid.proofs.is_valid.Statement.{statement}
 use Rattle.valid.proofs.is_valid.Tie as tie
 

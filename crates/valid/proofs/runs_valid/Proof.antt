@@ -1,6 +1,6 @@
 -- `runs_valid` is right: it tests each part of `RunsValid`, and the lengths behind the last run add nothing to their sum.
 use borrow.Author.Needs.{needs}
-use Rattle.valid.proofs.Answers.{runs-answer}
+use Rattle.valid.proofs.Testing.{runs-answer}
 use Rattle.valid.proofs.runs_valid.Statement.{statement}
 use Rattle.valid.proofs.runs_valid.Tie as tie
 
