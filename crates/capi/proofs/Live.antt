@@ -62,12 +62,15 @@ module _ {M : Type 1} (𝓤 : URA M) (H : Heap 𝓤) (A : Atoms 𝓤) (at-mem : 
 
 module _ (the-call : ℕ → Call) where
   -- what the call promises
-  abbrev live-clauses : {M : Type 1} (𝓤 : URA M) → Clauses 𝓤 live.ended
+  abbrev pub live-clauses : {M : Type 1} (𝓤 : URA M) → Clauses 𝓤 live.ended
   live-clauses 𝓤 κs args = record {
     ghost = Unit {0};
     requires = λ _. emp 𝓤;
     ensures = λ _ r end. fact 𝓤 (GateCall (the-call (args .1 .0)) (now (args .0)) (now (end .0)) r);
   }
+
+  abbrev pub LiveCall : {M : Type 1} (𝓤 : URA M) (H : Heap 𝓤) (A : Atoms 𝓤) → Contract 𝓤
+  LiveCall 𝓤 H A = tripleOf 𝓤 H A live.signature (closing 𝓤 H A live.ended (live-clauses 𝓤))
 
   module _ (callee : Name) where
     -- the code

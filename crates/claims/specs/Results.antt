@@ -7,11 +7,10 @@ use Rattle.buffer.specs.Put.{Put}
 use Rattle.book.specs.Format.{Contents, accepted, step-limit, read}
 use Rattle.judge.specs.declared.Judgement.{Judgement}
 use Rattle.gate.specs.Plain.{Call, step, withdraw}
-use Rattle.gate.specs.Gate.{reply-numbers, state-of}
+use Rattle.gate.specs.Gate.{state-of}
 use Rattle.gate.specs.Demand.{Demand3}
 use Rattle.gate.specs.Replay.{calls-of, answers-in}
 use Rattle.gate.specs.declared.Gate.{Gate}
-use Rattle.gate.specs.declared.Called.{Called}
 use Rattle.gate.specs.declared.Replayed.{Replayed}
 use Rattle.gate.specs.declared.Played.the-variants.{Done}
 use Rattle.report.specs.Text.{Findings, refused-at, accepted-with, text-of}
@@ -20,6 +19,7 @@ use Rattle.capi.specs.declared.Judged.{Judged}
 use Rattle.claims.specs.Table.{BookRow, NoRow, JudgeRow, WriterRow, GateRow, ReplayRow}
 use Rattle.claims.specs.Demands.{TurnsAway, WithoutRuns, answered-numbers, judged-numbers, opened-numbers, Demand2}
 use Rattle.claims.specs.declared.BookAnswers.{BookAnswers}
+use Rattle.claims.specs.declared.DeckCalled.{DeckCalled}
 use Rattle.claims.specs.declared.GateAnswers.{GateAnswers}
 
 -- the book's rows are this answer's refusals
@@ -52,9 +52,9 @@ pub record TextRefusals (s text text′ : List ℕ) (n : ℕ) : Type 0 where
   pub refused : (m place : ℕ) → BookRow s m place → Put (text-of (refused-at m place)) text text′ n
   pub accepted : NoRow s → (w : Findings) × Put (text-of (accepted-with w)) text text′ n
 
--- of step and withdraw on any record
-pub record CallRefusals (g : Gate) (x : Call) (r : Called) : Type 0 where
-  pub call : TurnsAway (GateRow g x) (reply-numbers (r .answer)) (r .gate ≡ g)
+-- of step and withdraw for C on any record
+pub record CallRefusals (g : Gate) (x : Call) (r : DeckCalled) : Type 0 where
+  pub call : TurnsAway (GateRow g x) (answered-numbers (r .answer)) (r .gate ≡ g)
 
 pub record GateRefusals (g : Gate) (run : ℕ) (r : GateAnswers) : Type 0 where
   pub stepped : CallRefusals g (step run) (r .stepped)

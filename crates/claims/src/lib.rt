@@ -3,10 +3,11 @@
 use capi::Answered;
 use capi::Judged;
 use capi::OpenedGate;
-use gate::Called;
 use gate::Gate;
 use gate::Replayed;
 use judge::Judgement;
+ghost use Rattle.gate.specs.Plain.{step as step-call, withdraw as withdraw-call};
+ghost use Rattle.capi.specs.Calls.{GateCall};
 ghost use Rattle.claims.specs.Results.{BookRefusals, JudgeRefusals, WriteRefusals, ReplayRefusals, TextRefusals, GateRefusals, Demand2Of, Demand3Of};
 
 // What the calls that read a book and change nothing return.
@@ -29,10 +30,16 @@ pub struct BufferAnswers {
     pub replayed: Answered,
 }
 
+// What a call for C on a gate's record answers, and the record as it leaves it.
+pub struct DeckCalled {
+    pub answer: Answered,
+    pub gate: Gate,
+}
+
 // What the calls on a gate's record return.
 pub struct GateAnswers {
-    pub stepped: Called,
-    pub withdrawn: Called,
+    pub stepped: DeckCalled,
+    pub withdrawn: DeckCalled,
 }
 
 fn book_answers<'a>(s: &'a [u8], list: &'a [u8], from: usize, to: usize) -> BookAnswers
@@ -60,11 +67,29 @@ fn book_answers<'a>(s: &'a [u8], list: &'a [u8], from: usize, to: usize) -> Book
     }
 }
 
+// `deck_step`, for a caller that holds the record by value.
+fn after_deck_step(g: Gate, run: u8) -> DeckCalled
+    ensures { λ called. ⌜ GateCall (step-call run) g (called .gate) (called .answer) ⌝ }
+{
+    let mut h = g;
+    let answer = capi::deck_step(&mut h, run);
+    DeckCalled { answer, gate: h }
+}
+
+// `deck_withdraw`, for a caller that holds the record by value.
+fn after_deck_withdraw(g: Gate, run: u8) -> DeckCalled
+    ensures { λ called. ⌜ GateCall (withdraw-call run) g (called .gate) (called .answer) ⌝ }
+{
+    let mut h = g;
+    let answer = capi::deck_withdraw(&mut h, run);
+    DeckCalled { answer, gate: h }
+}
+
 fn gate_answers(g: Gate, run: u8) -> GateAnswers
     ensures { λ r. ⌜ GateRefusals g run r ⌝ }
 {
-    let stepped = gate::after_step(g, run);
-    let withdrawn = gate::after_withdraw(g, run);
+    let stepped = after_deck_step(g, run);
+    let withdrawn = after_deck_withdraw(g, run);
     GateAnswers { stepped, withdrawn }
 }
 

@@ -60,14 +60,14 @@ made g a = record { answer = a; gate = g }
 
 module _ {M : Type 1} (𝓤 : URA M) (H : Heap 𝓤) (A : Atoms 𝓤) (W : Given 𝓤 H A) where
   -- a local that holds a gate is a gate in memory, and back
-  lies-in : (g : Gate) (l : ℕ) → Is T.the-row g (mach g ∷ []) → ent 𝓤 (sem 𝓤 H A (fat fullShare T′.mir l 0 (mach g))) (sem 𝓤 H A (mem T.the-row .lies g l 0))
+  pub lies-in : (g : Gate) (l : ℕ) → Is T.the-row g (mach g ∷ []) → ent 𝓤 (sem 𝓤 H A (fat fullShare T′.mir l 0 (mach g))) (sem 𝓤 H A (mem T.the-row .lies g l 0))
   unfolding partOf
   lies-in g l is =
       qed W (‵ (fat fullShare T′.mir l 0 (mach g)) ∷ []) ∵ use1 W (‵ (cellAt fullShare (T.the-row .mir) (mach g ∷ []) l 0)) (W .laws .at-raw fullShare T′.mir l 0 (mach g)) $
       owned ! T.the-row (Is T.the-row) (LL.makes T.the-type T′.the-plain 𝓤 H A) g _ is $ move ! (1 ∷ 0 ∷ []) $ fjoin ! $
       fpack ! (List Val) (λ us. fsep (cellAt fullShare (T.the-row .mir) us l 0) (T.the-row .own g us)) (mach g ∷ []) $ done !
 
-  lies-out : (g : Gate) (l : ℕ) → ent 𝓤 (sem 𝓤 H A (mem T.the-row .lies g l 0)) (sep 𝓤 (sem 𝓤 H A (fat fullShare T′.mir l 0 (mach g))) (sem 𝓤 H A (T.the-row .own g (mach g ∷ []))))
+  pub lies-out : (g : Gate) (l : ℕ) → ent 𝓤 (sem 𝓤 H A (mem T.the-row .lies g l 0)) (sep 𝓤 (sem 𝓤 H A (fat fullShare T′.mir l 0 (mach g))) (sem 𝓤 H A (T.the-row .own g (mach g ∷ []))))
   unfolding partOf
   lies-out g l =
       qed W (‵ (mem T.the-row .lies g l 0) ∷ []) ∵ fpick ! (λ vs. fsplit ! $ spelt ! (T.the-row) (Is (T.the-row)) (shows 𝓤 H A (T.the-row)) (LL.vals T.the-type T′.the-laws) (LL.tells T.the-type T′.the-laws) fullShare g vs l 0 $
