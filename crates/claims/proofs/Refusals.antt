@@ -43,7 +43,7 @@ use Rattle.gate.proofs.Unchanged.{refused-unchanged}
 use Rattle.report.specs.Text.{Findings, Report, refused-at, accepted-with, text-of}
 use Rattle.report.specs.Reporting.{ReportOn, Reports}
 use Rattle.claims.specs.Table.{BookRow, NoRow, JudgeRow, order-under-128, cycle-under-128, judged-book, WriterRow, written-book, shorter-than-the-book, run-called, GateRow, not-declared, is-withdrawn, all-kept, is-tangled, is-damaged, ReplayRow, replayed-book, no-call, answers-short}
-use Rattle.claims.specs.Demands.{TurnsAway, WithoutRuns, Demand1}
+use Rattle.claims.specs.Demands.{TurnsAway, BuffersUnchanged, AnswersUnchanged, WithoutRuns, Demand1}
 use Rattle.claims.proofs.Table.{refused-row, row-refused, row-single, accepted-no-row}
 
 -- ---- a refusal, and a call that is carried out
@@ -100,7 +100,7 @@ open-turns s o h = rw (h .answer) (go (read s) refl (h .book))
 
 module _ (s order order′ cycle cycle′ : List ℕ) (r : Judgement) where
   abbrev Same : Type 0
-  Same = (order′ ≡ order) × (cycle′ ≡ cycle) × (r .count ≡ 0)
+  Same = BuffersUnchanged order order′ cycle cycle′ (r .count)
 
   Turns : Numbers → Type 0
   Turns n = TurnsAway (JudgeRow s order cycle) n Same
@@ -123,7 +123,7 @@ module _ (s order order′ cycle cycle′ : List ℕ) (r : Judgement) where
     unfolding Turns
     judged-long (refused cause at) e j =
         let row = refused-row s cause at e in
-        rw (j .verdict-is) (turned (JudgeRow s order cycle) Same (refused-with cause at) (judged-book a b row) refl (j .order-unchanged, j .cycle-unchanged, j .count-is) (λ m p x. row-single s (number cause) m at p row (only-book x)))
+        rw (j .verdict-is) (turned (JudgeRow s order cycle) Same (refused-with cause at) (judged-book a b row) refl (record { order-same = j .order-unchanged; cycle-same = j .cycle-unchanged; no-count = j .count-is }) (λ m p x. row-single s (number cause) m at p row (only-book x)))
     judged-long (accepted c) e j = go (r .verdict) (r .count) j
       where
         none : (m at : ℕ) → ¬ JudgeRow s order cycle m at
@@ -141,7 +141,7 @@ module _ (s order order′ cycle cycle′ : List ℕ) (r : Judgement) where
       short : (length order < 128) ⊎ (length cycle < 128) → JudgeRow s order cycle 12 0 → Turns (verdict-numbers (r .verdict))
       short h x =
           let k = j .short h in
-          rw (k .verdict-is) (turned (JudgeRow s order cycle) Same (refused-with JudgeBufferShort 0) x refl (k .order-unchanged, k .cycle-unchanged, k .count-is) (only-12 h))
+          rw (k .verdict-is) (turned (JudgeRow s order cycle) Same (refused-with JudgeBufferShort 0) x refl (record { order-same = k .order-unchanged; cycle-same = k .cycle-unchanged; no-count = k .count-is }) (only-12 h))
 
       go : Dec (length order < 128) → Dec (length cycle < 128) → Turns (verdict-numbers (r .verdict))
       go (yes h) d = short (inl h) (order-under-128 h)
@@ -184,10 +184,10 @@ module _ (s out out′ : List ℕ) where
 
 -- ---- step and withdraw
 
-not-refused : {n : ℕ} (a : Reply) → answer-of a ≡ refused-by-number n → (reply-numbers a .number ≡ n) × (reply-numbers a .place ≡ 0)
-not-refused (Place p) e = let z : _≡_ {A = ℕ} 0 1 = cc in absurd (omega arith)
-not-refused Withdrawn e = let z : _≡_ {A = ℕ} 0 1 = cc in absurd (omega arith)
-not-refused (Refused cause) e = (cc, refl)
+refused-numbers : {n : ℕ} (a : Reply) → answer-of a ≡ refused-by-number n → (reply-numbers a .number ≡ n) × (reply-numbers a .place ≡ 0)
+refused-numbers (Place p) e = let z : _≡_ {A = ℕ} 0 1 = cc in absurd (omega arith)
+refused-numbers Withdrawn e = let z : _≡_ {A = ℕ} 0 1 = cc in absurd (omega arith)
+refused-numbers (Refused cause) e = (cc, refl)
 
 module _ (g : Gate) (y : Sound g) where
   -- a row that applies is a rule of the plain gate
@@ -232,7 +232,7 @@ module _ (g h : Gate) (x : Call) where
     refused-by = λ m at r.
         let p = row-rule g y x r in
         let e = single (book-of g) (state-of g) (w .plain) (p .0) .answers in
-        let q = not-refused a e in
+        let q = refused-numbers a e in
         (q .0, q .1 ∙ sym (p .1));
   }
     where
@@ -313,10 +313,10 @@ module _ (s calls answers : List ℕ) (U : Type 0) where
   play-turns (accepted c) e u = play-accepted c e (eqb (bad-at 0 calls) (length calls)) (leb (2 * length (calls-of calls)) (length answers)) refl refl u
 
 replay-turns : (s calls answers answers′ : List ℕ) (r : Replayed) → Replays s calls answers answers′ r
-    → TurnsAway (ReplayRow s calls answers) (played-numbers (r .played)) ((answers′ ≡ answers) × (state-of (r .gate) ≡ newly-opened))
+    → TurnsAway (ReplayRow s calls answers) (played-numbers (r .played)) (AnswersUnchanged s answers answers′ (r .gate))
 replay-turns s calls answers answers′ r w =
-    rw (w .played) (play-turns s calls answers ((answers′ ≡ answers) × (state-of (r .gate) ≡ newly-opened)) (read s) refl
-    (λ n. let u = w .refused-unchanged (rw (w .played) n) in (u .buffer, u .state)))
+    rw (w .played) (play-turns s calls answers (AnswersUnchanged s answers answers′ (r .gate)) (read s) refl
+    (λ n. let u = w .refused-unchanged (rw (w .played) n) in record { buffer = u .buffer; book = w .book; state = u .state }))
 
 -- ---- the program's text
 
@@ -358,5 +358,5 @@ demand-1 = record {
   report-accepted = report-accepted;
 }
   where
-    buffer-alone : {R : ℕ → ℕ → Type 0} {n : Numbers} {A B : Type 0} → TurnsAway R n (A × B) → TurnsAway R n A
-    buffer-alone t = record { row = t .row; no-value = t .no-value; unchanged = λ z. t .unchanged z .0; refused-by = t .refused-by }
+    buffer-alone : {R : ℕ → ℕ → Type 0} {n : Numbers} {s answers answers′ : List ℕ} {g : Gate} → TurnsAway R n (AnswersUnchanged s answers answers′ g) → TurnsAway R n (answers′ ≡ answers)
+    buffer-alone t = record { row = t .row; no-value = t .no-value; unchanged = λ z. t .unchanged z .buffer; refused-by = t .refused-by }

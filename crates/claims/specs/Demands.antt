@@ -23,7 +23,7 @@ use Rattle.judge.specs.declared.Verdict.the-variants.{Passed}
 use Rattle.classes.specs.Tested.{tested-numbers, TestedAs}
 use Rattle.classes.specs.declared.Tested.{Tested}
 use Rattle.gate.specs.Plain.{Call, Answer as PlainAnswer, newly-opened}
-use Rattle.gate.specs.Gate.{reply-numbers, book-of, state-of, opening-numbers, OpenedAs, CalledAs}
+use Rattle.gate.specs.Gate.{reply-numbers, book-of, state-of, opening-numbers, opened-book, OpenedAs, CalledAs}
 use Rattle.gate.specs.Chain.{Chain}
 use Rattle.gate.specs.Demand.{Demand3}
 use Rattle.gate.specs.Replay.{played-numbers, Replays}
@@ -50,6 +50,18 @@ pub record TurnsAway (R : ℕ → ℕ → Type 0) (n : Numbers) (Unchanged : Typ
   -- Where a row applies, the call is refused with its number, at its place.
   pub refused-by : (m place : ℕ) → R m place → (n .number ≡ m) × (n .place ≡ place)
 
+-- the judge's two buffers are as at entry, and none of their bytes are counted
+pub record BuffersUnchanged (order order′ cycle cycle′ : List ℕ) (count : ℕ) : Type 0 where
+  pub order-same : order′ ≡ order
+  pub cycle-same : cycle′ ≡ cycle
+  pub no-count : count ≡ 0
+
+-- a refused replay leaves the buffer of answers and the gate as opening it left them
+pub record AnswersUnchanged (s answers answers′ : List ℕ) (g : Gate) : Type 0 where
+  pub buffer : answers′ ≡ answers
+  pub book : book-of g ≡ opened-book (read s)
+  pub state : state-of g ≡ newly-opened
+
 -- a refused opening hands back, beside number and place, the gate of a book without runs
 pub record WithoutRuns (g : Gate) : Type 0 where
   pub book : book-of g ≡ nothing
@@ -70,9 +82,9 @@ pub record Demand1 : Type 1 where
   pub read-book : (s : List ℕ) (r : Reading) → ReadAs (read s) r → TurnsAway (BookRow s) (reading-numbers (outcome-of r)) (r .book ≡ empty-book)
   pub deck-read : (s : List ℕ) (r : Answered) → ReadCall s r → TurnsAway (BookRow s) (answered-numbers r) (Unit {0})
   pub judge-book : (s order order′ cycle cycle′ : List ℕ) (r : Judgement) → BytesJudged order order′ cycle cycle′ s r
-      → TurnsAway (JudgeRow s order cycle) (verdict-numbers (r .verdict)) ((order′ ≡ order) × (cycle′ ≡ cycle) × (r .count ≡ 0))
+      → TurnsAway (JudgeRow s order cycle) (verdict-numbers (r .verdict)) (BuffersUnchanged order order′ cycle cycle′ (r .count))
   pub deck-judge : (s order order′ cycle cycle′ : List ℕ) (r : Judged) → JudgeCall s order order′ cycle cycle′ r
-      → TurnsAway (JudgeRow s order cycle) (judged-numbers r) ((order′ ≡ order) × (cycle′ ≡ cycle) × (r .count ≡ 0))
+      → TurnsAway (JudgeRow s order cycle) (judged-numbers r) (BuffersUnchanged order order′ cycle cycle′ (r .count))
   -- the four class tests, the order check, the cycle check and the arc test; P is what they ask of the contents
   pub test-book : (P : Contents → Type 0) (s : List ℕ) (r : Tested) → TestedAs P s r → TurnsAway (BookRow s) (tested-numbers r) (Unit {0})
   pub deck-test : (P : Contents → Type 0) (s : List ℕ) (r : Answered) → TestCall P s r → TurnsAway (BookRow s) (answered-numbers r) (Unit {0})
@@ -84,7 +96,7 @@ pub record Demand1 : Type 1 where
   pub call-gate : (g h : Gate) (x : Call) (a : Reply) → CalledAs g x a h → TurnsAway (GateRow g x) (reply-numbers a) (h ≡ g)
   pub deck-call : (g h : Gate) (x : Call) (r : Answered) → GateCall x g h r → TurnsAway (GateRow g x) (answered-numbers r) (h ≡ g)
   pub replay-calls : (s calls answers answers′ : List ℕ) (r : Replayed) → Replays s calls answers answers′ r
-      → TurnsAway (ReplayRow s calls answers) (played-numbers (r .played)) ((answers′ ≡ answers) × (state-of (r .gate) ≡ newly-opened))
+      → TurnsAway (ReplayRow s calls answers) (played-numbers (r .played)) (AnswersUnchanged s answers answers′ (r .gate))
   pub deck-replay : (s calls answers answers′ : List ℕ) (r : Answered) → ReplayCall s calls answers answers′ r
       → TurnsAway (ReplayRow s calls answers) (answered-numbers r) (answers′ ≡ answers)
   -- the program's text, in a buffer that is always long enough: of a refused book its number and place alone

@@ -1,7 +1,6 @@
--- Table: document 01's table of refusals. Demands: the demands, over what the public calls promise. Results: the demands as contracts of functions that make
--- the calls. Determined: a call's promise fixes its whole result. Lazy: the demands exclude document 01's lazy programs.
+-- Table: document 01's table of refusals. Demands: the demands, over what the public calls promise. Determined: a call's promise fixes its whole result.
+-- Lazy: the demands exclude document 01's lazy programs.
 pub mod Table
 pub mod Demands
-pub mod Results
 pub mod Determined
 pub mod Lazy

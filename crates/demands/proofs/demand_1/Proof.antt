@@ -1,7 +1,7 @@
 -- Each part is what the function that makes those calls ensures.
 use borrow.Author.Needs.{needs}
-use Rattle.claims.proofs.demand_1.Statement.{statement}
-use Rattle.claims.proofs.demand_1.Tie as tie
+use Rattle.demands.proofs.demand_1.Statement.{statement}
+use Rattle.demands.proofs.demand_1.Tie as tie
 
 book-answers-requires : tie.Need-book-answers-requires
 book-answers-requires c κs = search needs

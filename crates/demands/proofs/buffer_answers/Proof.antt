@@ -1,8 +1,8 @@
 -- Each answer meets its call's contract, of which demand 1 holds.
 use Rattle.claims.proofs.Refusals.{demand-1}
 use borrow.Author.Needs.{needs}
-use Rattle.claims.proofs.buffer_answers.Statement.{statement}
-use Rattle.claims.proofs.buffer_answers.Tie as tie
+use Rattle.demands.proofs.buffer_answers.Statement.{statement}
+use Rattle.demands.proofs.buffer_answers.Tie as tie
 
 deck-judge-requires : tie.Need-deck-judge-requires
 deck-judge-requires c κs = search needs

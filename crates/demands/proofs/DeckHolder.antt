@@ -47,10 +47,10 @@ use Rattle.capi.proofs.Answered as R
 use Rattle.capi.proofs.Answered.Laws as R′
 use Rattle.capi.proofs.deck_step as live
 use Rattle.capi.proofs.Live.{live-clauses, LiveCall}
-use Rattle.claims.specs.declared.DeckCalled.{DeckCalled}
-use Rattle.claims.proofs.DeckCalled as O
-use Rattle.claims.proofs.DeckCalled.Laws as O′
-use Rattle.claims.proofs.after_deck_step as by-value
+use Rattle.demands.specs.declared.DeckCalled.{DeckCalled}
+use Rattle.demands.proofs.DeckCalled as O
+use Rattle.demands.proofs.DeckCalled.Laws as O′
+use Rattle.demands.proofs.after_deck_step as by-value
 
 abbrev stayed : Stays (by-value.ended .signature .params) (by-value.ended .kept)
 stayed = (stay-none (λ _. T.the-row) yes, (stay-none (λ _. u8) yes, tt))

@@ -9,18 +9,18 @@ use Rattle.judge.specs.declared.Judgement.{Judgement}
 use Rattle.gate.specs.Plain.{Call, step, withdraw}
 use Rattle.gate.specs.Gate.{state-of}
 use Rattle.gate.specs.Demand.{Demand3}
-use Rattle.gate.specs.Replay.{calls-of, answers-in}
+use Rattle.gate.specs.Replay.{calls-of, bad-at, answers-in}
 use Rattle.gate.specs.declared.Gate.{Gate}
 use Rattle.gate.specs.declared.Replayed.{Replayed}
 use Rattle.gate.specs.declared.Played.the-variants.{Done}
 use Rattle.report.specs.Text.{Findings, refused-at, accepted-with, text-of}
 use Rattle.capi.specs.declared.Answered.{Answered}
 use Rattle.capi.specs.declared.Judged.{Judged}
 use Rattle.claims.specs.Table.{BookRow, NoRow, JudgeRow, WriterRow, GateRow, ReplayRow}
-use Rattle.claims.specs.Demands.{TurnsAway, WithoutRuns, answered-numbers, judged-numbers, opened-numbers, Demand2}
-use Rattle.claims.specs.declared.BookAnswers.{BookAnswers}
-use Rattle.claims.specs.declared.DeckCalled.{DeckCalled}
-use Rattle.claims.specs.declared.GateAnswers.{GateAnswers}
+use Rattle.claims.specs.Demands.{TurnsAway, BuffersUnchanged, WithoutRuns, answered-numbers, judged-numbers, opened-numbers, Demand2}
+use Rattle.demands.specs.declared.BookAnswers.{BookAnswers}
+use Rattle.demands.specs.declared.DeckCalled.{DeckCalled}
+use Rattle.demands.specs.declared.GateAnswers.{GateAnswers}
 
 -- the book's rows are this answer's refusals
 abbrev pub ByBook : List ℕ → Answered → Type 0
@@ -40,7 +40,7 @@ pub record BookRefusals (s : List ℕ) (r : BookAnswers) : Type 0 where
 
 -- of the judge, the writer, the replay and the program's text, with the lent bytes before and after the call
 pub record JudgeRefusals (s order order′ cycle cycle′ : List ℕ) (r : Judged) : Type 0 where
-  pub judged : TurnsAway (JudgeRow s order cycle) (judged-numbers r) ((order′ ≡ order) × (cycle′ ≡ cycle) × (r .count ≡ 0))
+  pub judged : TurnsAway (JudgeRow s order cycle) (judged-numbers r) (BuffersUnchanged order order′ cycle cycle′ (r .count))
 
 pub record WriteRefusals (s out out′ : List ℕ) (r : Answered) : Type 0 where
   pub written : TurnsAway (WriterRow s out) (answered-numbers r) (out′ ≡ out)
@@ -64,7 +64,9 @@ pub record GateRefusals (g : Gate) (run : ℕ) (r : GateAnswers) : Type 0 where
 pub record Demand2Of (s order order′ cycle cycle′ : List ℕ) (r : Judgement) : Type 0 where
   pub holds : (c : Contents) → read s ≡ accepted c → step-limit ≤ length order → step-limit ≤ length cycle → Demand2 c order′ cycle′ r
 
--- demand 3 of a replay that was carried out, over the answers in the buffer and the record
-pub record Demand3Of (s calls answers′ : List ℕ) (r : Replayed) : Type 0 where
-  pub holds : (c : Contents) (n : ℕ) → read s ≡ accepted c → r .played ≡ Done n
+-- demand 3 of a replay, over the answers in the buffer and the record, where the book is accepted, the list has whole calls only and the buffer has
+-- room for two bytes a call: then all calls are made
+pub record Demand3Of (s calls answers answers′ : List ℕ) (r : Replayed) : Type 0 where
+  pub played : (c : Contents) → read s ≡ accepted c → bad-at 0 calls ≡ length calls → 2 * length (calls-of calls) ≤ length answers → r .played ≡ Done (length (calls-of calls))
+  pub holds : (c : Contents) → read s ≡ accepted c → bad-at 0 calls ≡ length calls → 2 * length (calls-of calls) ≤ length answers
       → Demand3 s c (calls-of calls) (answers-in (take (2 * length (calls-of calls)) answers′)) (state-of (r .gate))

@@ -1,8 +1,8 @@
 -- The judgement meets the judge's contract, of which demand 2 holds.
 use Rattle.claims.proofs.Demands.{demand-2}
 use borrow.Author.Needs.{needs}
-use Rattle.claims.proofs.demand_2.Statement.{statement}
-use Rattle.claims.proofs.demand_2.Tie as tie
+use Rattle.demands.proofs.demand_2.Statement.{statement}
+use Rattle.demands.proofs.demand_2.Tie as tie
 
 judge-requires : tie.Need-judge-requires
 judge-requires c κs = search needs

@@ -1,8 +1,8 @@
 -- The text meets the contract of `report`, of which demand 1 holds.
 use Rattle.claims.proofs.Refusals.{demand-1}
 use borrow.Author.Needs.{needs}
-use Rattle.claims.proofs.text_answer.Statement.{statement}
-use Rattle.claims.proofs.text_answer.Tie as tie
+use Rattle.demands.proofs.text_answer.Statement.{statement}
+use Rattle.demands.proofs.text_answer.Tie as tie
 
 report-requires : tie.Need-report-requires
 report-requires c κs = search needs

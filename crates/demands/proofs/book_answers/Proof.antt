@@ -1,8 +1,8 @@
 -- Each answer meets its call's contract, of which demand 1 holds.
 use Rattle.claims.proofs.Refusals.{demand-1}
 use borrow.Author.Needs.{needs}
-use Rattle.claims.proofs.book_answers.Statement.{statement}
-use Rattle.claims.proofs.book_answers.Tie as tie
+use Rattle.demands.proofs.book_answers.Statement.{statement}
+use Rattle.demands.proofs.book_answers.Tie as tie
 
 deck-read-requires : tie.Need-deck-read-requires
 deck-read-requires c κs = search needs

@@ -1,0 +1,177 @@
+// The demands as contracts: each function here makes the public calls and ensures the demand of what they return. The demands are stated in specs/; that
+// they hold of whatever meets the calls' contracts is proved in proofs/.
+use capi::Answered;
+use capi::Judged;
+use capi::OpenedGate;
+use gate::Gate;
+use gate::Replayed;
+use judge::Judgement;
+ghost use Rattle.gate.specs.Plain.{step as step-call, withdraw as withdraw-call};
+ghost use Rattle.capi.specs.Calls.{GateCall};
+ghost use Rattle.demands.specs.Results.{BookRefusals, JudgeRefusals, WriteRefusals, ReplayRefusals, TextRefusals, GateRefusals, Demand2Of, Demand3Of};
+
+// What the calls that read a book and change nothing return.
+pub struct BookAnswers {
+    pub read: Answered,
+    pub serial: Answered,
+    pub atomic: Answered,
+    pub relserial: Answered,
+    pub conflict: Answered,
+    pub order: Answered,
+    pub cycle: Answered,
+    pub arc: Answered,
+    pub opened: OpenedGate,
+}
+
+// What the calls that are lent a buffer return.
+pub struct BufferAnswers {
+    pub judged: Judged,
+    pub written: Answered,
+    pub replayed: Answered,
+}
+
+// What a call for C on a gate's record answers, and the record as it leaves it.
+pub struct DeckCalled {
+    pub answer: Answered,
+    pub gate: Gate,
+}
+
+// What the calls on a gate's record return.
+pub struct GateAnswers {
+    pub stepped: DeckCalled,
+    pub withdrawn: DeckCalled,
+}
+
+fn book_answers<'a>(s: &'a [u8], list: &'a [u8], from: usize, to: usize) -> BookAnswers
+    ensures { λ r. ⌜ BookRefusals (now (s .entry)) r ⌝ }
+{
+    let read = capi::deck_read(s);
+    let serial = capi::deck_serial(s);
+    let atomic = capi::deck_atomic(s);
+    let relserial = capi::deck_relserial(s);
+    let conflict = capi::deck_conflict(s);
+    let order = capi::deck_check_order(s, list);
+    let cycle = capi::deck_check_cycle(s, list);
+    let arc = capi::deck_arc(s, from, to);
+    let opened = capi::deck_open(s);
+    BookAnswers {
+        read,
+        serial,
+        atomic,
+        relserial,
+        conflict,
+        order,
+        cycle,
+        arc,
+        opened,
+    }
+}
+
+// `deck_step`, for a caller that holds the record by value.
+fn after_deck_step(g: Gate, run: u8) -> DeckCalled
+    ensures { λ called. ⌜ GateCall (step-call run) g (called .gate) (called .answer) ⌝ }
+{
+    let mut h = g;
+    let answer = capi::deck_step(&mut h, run);
+    DeckCalled { answer, gate: h }
+}
+
+// `deck_withdraw`, for a caller that holds the record by value.
+fn after_deck_withdraw(g: Gate, run: u8) -> DeckCalled
+    ensures { λ called. ⌜ GateCall (withdraw-call run) g (called .gate) (called .answer) ⌝ }
+{
+    let mut h = g;
+    let answer = capi::deck_withdraw(&mut h, run);
+    DeckCalled { answer, gate: h }
+}
+
+fn gate_answers(g: Gate, run: u8) -> GateAnswers
+    ensures { λ r. ⌜ GateRefusals g run r ⌝ }
+{
+    let stepped = after_deck_step(g, run);
+    let withdrawn = after_deck_withdraw(g, run);
+    GateAnswers { stepped, withdrawn }
+}
+
+fn buffer_answers<'a>(
+    s: &'a [u8],
+    calls: &'a [u8],
+    order: &mut [u8],
+    cycle: &mut [u8],
+    out: &mut [u8],
+    answers: &mut [u8],
+) -> BufferAnswers
+    ensures { λ r. ⌜ JudgeRefusals (now (s .entry)) (now (order .entry)) (now (order .exit)) (now (cycle .entry)) (now (cycle .exit)) (r .judged) ⌝ }
+    ensures { λ r. ⌜ WriteRefusals (now (s .entry)) (now (out .entry)) (now (out .exit)) (r .written) ⌝ }
+    ensures { λ r. ⌜ ReplayRefusals (now (s .entry)) (now (calls .entry)) (now (answers .entry)) (now (answers .exit)) (r .replayed) ⌝ }
+{
+    let judged = capi::deck_judge(s, order, cycle);
+    let written = capi::deck_write(s, out);
+    let replayed = capi::deck_replay(s, calls, answers);
+    BufferAnswers {
+        judged,
+        written,
+        replayed,
+    }
+}
+
+fn text_answer(s: &[u8], text: &mut [u8; report::TEXT]) -> usize
+    ensures { λ r. ⌜ TextRefusals (now (s .entry)) (now (text .entry)) (now (text .exit)) r ⌝ }
+{
+    report::report(s, text)
+}
+
+// What every call returns.
+pub struct AllAnswers {
+    pub of_book: BookAnswers,
+    pub of_buffers: BufferAnswers,
+    pub of_gate: GateAnswers,
+    pub text: usize,
+}
+
+// Demand 1 of every call: on a book's bytes, a list for the two checks, two places, a list of calls, buffers, and a gate's record.
+pub fn demand_1<'a>(
+    s: &'a [u8],
+    list: &'a [u8],
+    from: usize,
+    to: usize,
+    calls: &'a [u8],
+    order: &mut [u8],
+    cycle: &mut [u8],
+    out: &mut [u8],
+    answers: &mut [u8],
+    text: &mut [u8; report::TEXT],
+    g: Gate,
+    run: u8,
+) -> AllAnswers
+    ensures { λ r. ⌜ BookRefusals (now (s .entry)) (r .«of_book») ⌝ }
+    ensures { λ r. ⌜ JudgeRefusals (now (s .entry)) (now (order .entry)) (now (order .exit)) (now (cycle .entry)) (now (cycle .exit)) (r .«of_buffers» .judged) ⌝ }
+    ensures { λ r. ⌜ WriteRefusals (now (s .entry)) (now (out .entry)) (now (out .exit)) (r .«of_buffers» .written) ⌝ }
+    ensures { λ r. ⌜ ReplayRefusals (now (s .entry)) (now (calls .entry)) (now (answers .entry)) (now (answers .exit)) (r .«of_buffers» .replayed) ⌝ }
+    ensures { λ r. ⌜ TextRefusals (now (s .entry)) (now (text .entry)) (now (text .exit)) (r .text) × GateRefusals g run (r .«of_gate») ⌝ }
+{
+    let of_book = book_answers(s, list, from, to);
+    let of_buffers = buffer_answers(s, calls, order, cycle, out, answers);
+    let text = text_answer(s, text);
+    let of_gate = gate_answers(g, run);
+    AllAnswers {
+        of_book,
+        of_buffers,
+        of_gate,
+        text,
+    }
+}
+
+// Demand 2 of the judge.
+pub fn demand_2(s: &[u8], order: &mut [u8], cycle: &mut [u8]) -> Judgement
+    ensures { λ r. ⌜ Demand2Of (now (s .entry)) (now (order .entry)) (now (order .exit)) (now (cycle .entry)) (now (cycle .exit)) r ⌝ }
+{
+    judge::judge(s, order, cycle)
+}
+
+// Demand 3 of the gate: opened over a book, and called in turn.
+pub fn demand_3(s: &[u8], calls: &[u8], answers: &mut [u8]) -> Replayed
+    ensures { λ r. ⌜ Demand3Of (now (s .entry)) (now (calls .entry)) (now (answers .entry)) (now (answers .exit)) r ⌝ }
+{
+    gate::replay(s, calls, answers)
+}
