@@ -5,12 +5,13 @@ use native.Mathlib.Decide.{decLe, decLt, ℕ-discrete}
 use native.Mathlib.Omega.{arith}
 use mathlib.Core.Path.{_≡_, refl, ap, sym, subst, _∙_}
 use mathlib.Core.Bool.{Bool, true, false, not, true≢false}
+use mathlib.Core.Logic.{_≢_}
 use mathlib.Core.List.{List, [], _∷_}
 use borrow.Author.Tests.{ltb-false, leb-true, leb-false, eqb-true, eqb-false, not-false, lt-ltb, le-ltb, le-leb, lt-leb, eq-eqb, ne-eqb}
 use lib.ListN.{length, getD}
-use lib.Dec.{leb, eqb}
-use Rattle.theory.specs.Deck.{Pair}
-use Rattle.book.specs.Format.{Contents, Outcome, refused, accepted, deck-rules, pick, byte, Command, pair, run, step, cut, done, width, operand-tests, Test, ReadState, Move, on, over, check, checks, command-tests, next-state, obeyed, obey, follow, end-at, command-at, read-from, read-commands, read-by, read, start}
+use lib.Dec.{leb, ltb, eqb}
+use Rattle.theory.specs.Deck.{Pair, Cut}
+use Rattle.book.specs.Format.{Contents, Outcome, refused, accepted, deck-rules, pick, byte, Command, pair, run, step, cut, done, width, above-pair, above-cut, operand-tests, Test, ReadState, Move, on, over, check, checks, command-tests, next-state, obeyed, obey, follow, end-at, command-at, read-from, read-commands, read-by, read, start}
 use Rattle.book.specs.TestOrder.{test-order, index-of, InOrder}
 use Rattle.book.specs.Numbers.{number}
 use Rattle.book.specs.declared.Cause.{Cause}
@@ -18,7 +19,7 @@ use Rattle.book.specs.declared.Cause.the-variants.{BookTooLong, NoCommand, Ends
 use Rattle.book.proofs.Ladder.{Fails, here, there, Holds, checks-fail, checks-hold}
 use Rattle.book.proofs.FormatLaws.{width-positive, not-accepted}
 use Rattle.book.proofs.TestOrder.{tested-in-order}
-use Rattle.claims.specs.Table.{ReadTo, from-start, behind, CommandAt, is-43, is-52, is-53, is-42, is-48, NoCommandAt, Fault, inside-operands, after-later-group, before-any-52, a-above-15, b-above-15, a-above-b, kind-above-15, pair-not-above, triple-not-above, not-the-count, cut-undeclared, viewer-undeclared, seen-by-itself, done-undeclared, run-17, step-33-of-run, step-129, after-step-0, not-below-steps, no-step-left, BookRow, book-over, no-command, before-45, at-command, after-45}
+use Rattle.claims.specs.Table.{LastIs, the-last, before-last, NotAbovePair, a-below, b-not-above, NotAboveCut, r-below, j-below, o-not-above, ReadTo, from-start, behind, CommandAt, is-43, is-52, is-53, is-42, is-48, NoCommandAt, Fault, inside-operands, after-later-group, before-any-52, a-above-15, b-above-15, a-above-b, kind-above-15, pair-not-above, triple-not-above, not-the-count, cut-undeclared, viewer-undeclared, seen-by-itself, done-undeclared, run-17, step-33-of-run, step-129, after-step-0, not-below-steps, no-step-left, BookRow, book-over, no-command, before-45, at-command, after-45}
 
 -- ---- tests in order
 
@@ -115,6 +116,55 @@ checks-on (t ∷ ts) at n next v u e = go (t .holds) refl e (checks-on ts at n n
 row-same : (s : List ℕ) (c d : Cause) (p q : ℕ) → over (refused c p) ≡ over (refused d q) → BookRow s (number c) p → BookRow s (number d) q
 row-same s c d p q e b = let f : c ≡ d = cc in let g : p ≡ q = cc in rw (← f, ← g) b
 
+-- ---- row 6: the test that a pair, or a triple, is above the last one fails exactly where the table says that it is not above
+
+pair-from-test : (q p : Pair) → above-pair (q ∷ []) p ≡ false → NotAbovePair p q
+pair-from-test q p e = go (eqb (q .a) (p .a)) refl e
+  where
+    go : (x : Bool) → eqb (q .a) (p .a) ≡ x → pick x (ltb (q .b) (p .b)) (ltb (q .a) (p .a)) ≡ false → NotAbovePair p q
+    go true h e = b-not-above (sym (eqb-true (q .a) (p .a) h)) (ltb-false (q .b) (p .b) e)
+    go false h e = let n : q .a ≢ p .a = eqb-false (q .a) (p .a) h in a-below (omega (arith, ltb-false (q .a) (p .a) e))
+
+pair-to-test : (q p : Pair) → NotAbovePair p q → above-pair (q ∷ []) p ≡ false
+pair-to-test q p (a-below h) = rw (ne-eqb (q .a) (p .a) (λ e. omega arith), le-ltb (q .a) (p .a) (omega arith))
+pair-to-test q p (b-not-above e h) = rw (eq-eqb (q .a) (p .a) (sym e), le-ltb (q .b) (p .b) h)
+
+pairs-from-test : (l : List Pair) (p : Pair) → above-pair l p ≡ false → (q : Pair) × (LastIs l q × NotAbovePair p q)
+pairs-from-test [] p e = absurd (true≢false e)
+pairs-from-test (q ∷ []) p e = (q, (the-last, pair-from-test q p e))
+pairs-from-test (x ∷ y ∷ l) p e = let r = pairs-from-test (y ∷ l) p e in (r .0, (before-last (r .1 .0), r .1 .1))
+
+pairs-to-test : {l : List Pair} {p q : Pair} → LastIs l q → NotAbovePair p q → above-pair l p ≡ false
+pairs-to-test the-last n = pair-to-test _ _ n
+pairs-to-test (before-last the-last) n = pair-to-test _ _ n
+pairs-to-test (before-last (before-last i)) n = pairs-to-test (before-last i) n
+
+cut-from-test : (q c : Cut) → above-cut (q ∷ []) c ≡ false → NotAboveCut c q
+cut-from-test q c e = go (eqb (q .of-run) (c .of-run)) (eqb (q .after) (c .after)) refl refl e
+  where
+    go : (x y : Bool) → eqb (q .of-run) (c .of-run) ≡ x → eqb (q .after) (c .after) ≡ y
+        → pick x (pick y (ltb (q .seen-by) (c .seen-by)) (ltb (q .after) (c .after))) (ltb (q .of-run) (c .of-run)) ≡ false → NotAboveCut c q
+    go true true h k e = o-not-above (sym (eqb-true (q .of-run) (c .of-run) h)) (sym (eqb-true (q .after) (c .after) k)) (ltb-false (q .seen-by) (c .seen-by) e)
+    go true false h k e =
+        let n : q .after ≢ c .after = eqb-false (q .after) (c .after) k in
+        j-below (sym (eqb-true (q .of-run) (c .of-run) h)) (omega (arith, ltb-false (q .after) (c .after) e))
+    go false y h k e = let n : q .of-run ≢ c .of-run = eqb-false (q .of-run) (c .of-run) h in r-below (omega (arith, ltb-false (q .of-run) (c .of-run) e))
+
+cut-to-test : (q c : Cut) → NotAboveCut c q → above-cut (q ∷ []) c ≡ false
+cut-to-test q c (r-below h) = rw (ne-eqb (q .of-run) (c .of-run) (λ e. omega arith), le-ltb (q .of-run) (c .of-run) (omega arith))
+cut-to-test q c (j-below e h) = rw (eq-eqb (q .of-run) (c .of-run) (sym e), ne-eqb (q .after) (c .after) (λ e. omega arith), le-ltb (q .after) (c .after) (omega arith))
+cut-to-test q c (o-not-above e f h) = rw (eq-eqb (q .of-run) (c .of-run) (sym e), eq-eqb (q .after) (c .after) (sym f), le-ltb (q .seen-by) (c .seen-by) h)
+
+cuts-from-test : (l : List Cut) (c : Cut) → above-cut l c ≡ false → (q : Cut) × (LastIs l q × NotAboveCut c q)
+cuts-from-test [] c e = absurd (true≢false e)
+cuts-from-test (q ∷ []) c e = (q, (the-last, cut-from-test q c e))
+cuts-from-test (x ∷ y ∷ l) c e = let r = cuts-from-test (y ∷ l) c e in (r .0, (before-last (r .1 .0), r .1 .1))
+
+cuts-to-test : {l : List Cut} {c q : Cut} → LastIs l q → NotAboveCut c q → above-cut l c ≡ false
+cuts-to-test the-last n = cut-to-test _ _ n
+cuts-to-test (before-last the-last) n = cut-to-test _ _ n
+cuts-to-test (before-last (before-last i)) n = cuts-to-test (before-last i) n
+
 module _ (s : List ℕ) (at : ℕ) (t : ReadState) where
   -- ---- a command has a fault exactly where a test with its number fails
 
@@ -122,7 +172,7 @@ module _ (s : List ℕ) (at : ℕ) (t : ReadState) where
   unfolding operand-tests
   operand-fault (pair p) n (at-once e) = b-above-15 {p = p} (omega (arith, ltb-false))
   operand-fault (pair p) n (later (at-once e)) = a-above-b (leb-false _ _ e)
-  operand-fault (pair p) n (later (later (at-once e))) = pair-not-above e
+  operand-fault (pair p) n (later (later (at-once e))) = let r = pairs-from-test (t .contents .pairs) p e in pair-not-above (r .1 .0) (r .1 .1)
   operand-fault (run r) n (at-once e) = not-the-count (eqb-false _ _ e)
   operand-fault (run r) n (later (at-once e)) = run-17 (ltb-false _ _ e)
   operand-fault (step x) n (at-once e) = before-any-52 {x = x} (omega (arith, ltb-false))
@@ -134,7 +184,7 @@ module _ (s : List ℕ) (at : ℕ) (t : ReadState) where
   operand-fault (cut c) n (later (later (at-once e))) = seen-by-itself (eqb-true _ _ (not-false _ e))
   operand-fault (cut c) n (later (later (later (at-once e)))) = after-step-0 {c = c} (omega (arith, ltb-false))
   operand-fault (cut c) n (later (later (later (later (at-once e))))) = not-below-steps (ltb-false _ _ e)
-  operand-fault (cut c) n (later (later (later (later (later (at-once e)))))) = triple-not-above e
+  operand-fault (cut c) n (later (later (later (later (later (at-once e)))))) = let r = cuts-from-test (t .contents .cuts) c e in triple-not-above (r .1 .0) (r .1 .1)
   operand-fault (done r) n (at-once e) = done-undeclared (ltb-false _ _ e)
   operand-fault (done r) n (later (at-once e)) = no-step-left (ltb-false _ _ e)
 
@@ -160,8 +210,8 @@ module _ (s : List ℕ) (at : ℕ) (t : ReadState) where
   fault-broken (b-above-15 {p} h) = later (later (at-once (le-ltb (p .b) 16 (omega arith))))
   fault-broken (a-above-b h) = later (later (later (at-once (lt-leb _ _ h))))
   fault-broken (kind-above-15 {x} h) = later (later (later (at-once (le-ltb (x .kind) 16 (omega arith)))))
-  fault-broken (pair-not-above h) = later (later (later (later (at-once h))))
-  fault-broken (triple-not-above h) = later (later (later (later (later (later (later (at-once h)))))))
+  fault-broken (pair-not-above i h) = later (later (later (later (at-once (pairs-to-test i h)))))
+  fault-broken (triple-not-above i h) = later (later (later (later (later (later (later (at-once (cuts-to-test i h))))))))
   fault-broken (not-the-count h) = later (later (at-once (ne-eqb _ _ h)))
   fault-broken (cut-undeclared h) = later (later (at-once (le-ltb _ _ h)))
   fault-broken (viewer-undeclared h) = later (later (later (at-once (le-ltb _ _ h))))

@@ -3,7 +3,6 @@
 -- exactly where a row here says so.
 use Prim.Native.Nat.{ℕ, _+_, _*_, _≤_, _<_}
 use mathlib.Core.Path.{_≡_}
-use mathlib.Core.Bool.{false}
 use mathlib.Core.Logic.{_≢_}
 use mathlib.Core.List.{List, [], _∷_, _++_}
 use lib.ListN.{length, getD}
@@ -11,13 +10,29 @@ use Rattle.theory.specs.Lists.{sum}
 use Rattle.theory.specs.History.{count}
 use Rattle.theory.specs.Relative.{RelativelySerializable}
 use Rattle.theory.specs.Deck.{Pair, Step, Cut}
-use Rattle.book.specs.Format.{Command, pair, run, step, cut, done, ReadState, start, next-state, byte, last, lengths, width, group-of, above-pair, above-cut, pair-at, run-at, step-at, cut-at, done-at}
+use Rattle.book.specs.Format.{Command, pair, run, step, cut, done, ReadState, start, next-state, byte, last, lengths, width, group-of, pair-at, run-at, step-at, cut-at, done-at}
 use Rattle.book.specs.TestOrder.{index-of, test-order}
 use Rattle.book.specs.Meaning.{conflict-of, unit-of}
 use Rattle.gate.specs.Plain.{Call, step as step-call, withdraw as withdraw-call, In, Eligible}
 use Rattle.gate.specs.Gate.{book-of, state-of, Sound}
 use Rattle.gate.specs.Replay.{calls-of, bad-at}
 use Rattle.gate.specs.declared.Gate.{Gate}
+
+-- the list ends in x
+pub data LastIs {A : Type 0} : List A → A → Type 0 where
+  the-last : {x : A} → LastIs (x ∷ []) x
+  before-last : {x y : A} {l : List A} → LastIs l x → LastIs (y ∷ l) x
+
+-- the pair p is not above q, compared left to right: a first, then b
+pub data NotAbovePair (p q : Pair) : Type 0 where
+  a-below : p .a < q .a → NotAbovePair p q
+  b-not-above : p .a ≡ q .a → p .b ≤ q .b → NotAbovePair p q
+
+-- the triple (r, j, o) of c is not above that of q, compared left to right
+pub data NotAboveCut (c q : Cut) : Type 0 where
+  r-below : c .of-run < q .of-run → NotAboveCut c q
+  j-below : c .of-run ≡ q .of-run → c .after < q .after → NotAboveCut c q
+  o-not-above : c .of-run ≡ q .of-run → c .after ≡ q .after → c .seen-by ≤ q .seen-by → NotAboveCut c q
 
 module _ (s : List ℕ) where
   -- a command begins at the offset, by its first byte
@@ -50,8 +65,8 @@ module _ (s : List ℕ) where
     a-above-b : {p : Pair} → p .b < p .a → Fault at t (pair p) 5
     kind-above-15 : {x : Step} → 15 < x .kind → Fault at t (step x) 5
     -- 6: pair or triple not above the one before
-    pair-not-above : {p : Pair} → above-pair (t .contents .pairs) p ≡ false → Fault at t (pair p) 6
-    triple-not-above : {c : Cut} → above-cut (t .contents .cuts) c ≡ false → Fault at t (cut c) 6
+    pair-not-above : {p q : Pair} → LastIs (t .contents .pairs) q → NotAbovePair p q → Fault at t (pair p) 6
+    triple-not-above : {c q : Cut} → LastIs (t .contents .cuts) q → NotAboveCut c q → Fault at t (cut c) 6
     -- 7: in 52 not the count so far; in 42 or 48 any run undeclared; in 42 r equal to o
     not-the-count : {r : ℕ} → r ≢ length (t .contents .runs) → Fault at t (run r) 7
     cut-undeclared : {c : Cut} → length (t .contents .runs) ≤ c .of-run → Fault at t (cut c) 7
