@@ -1,13 +1,13 @@
 -- Demand 1: each call's refusals are the rows of document 01's table. A call that reads a book is refused as the book is, by proofs/Table; a call's own
 -- rows are the cases of its contract.
 use Prim.Native.Nat.{ℕ, suc, _+_, _*_, _≤_, _<_}
-use native.Mathlib.Decide.{decLt}
+use native.Mathlib.Decide.{decLt, ℕ-discrete}
 use native.Mathlib.Omega.{arith}
 use mathlib.Core.Path.{_≡_, refl, ap, sym, subst, _∙_}
 use mathlib.Core.Bool.{Bool, true, false}
 use mathlib.Core.Logic.{_⊎_, inl, inr, _≢_}
 use mathlib.Core.List.{List, [], _∷_}
-use borrow.Author.Tests.{leb-true, leb-false, eqb-true, eqb-false}
+use borrow.Author.Tests.{leb-true, leb-false, eqb-true, eqb-false, eq-eqb, ne-eqb}
 use lib.ListN.{length}
 use lib.Dec.{eqb, leb}
 use Rattle.buffer.specs.Put.{Put}
@@ -40,9 +40,10 @@ use Rattle.gate.specs.declared.Reply.{Reply}
 use Rattle.gate.specs.declared.Reply.the-variants.{Place, Withdrawn, Refused}
 use Rattle.gate.proofs.PlainGate.{single}
 use Rattle.gate.proofs.Unchanged.{refused-unchanged}
+use Rattle.gate.proofs.Replays.{whole-calls as two-each}
 use Rattle.report.specs.Text.{Findings, Report, refused-at, accepted-with, text-of}
 use Rattle.report.specs.Reporting.{ReportOn, Reports}
-use Rattle.claims.specs.Table.{BookRow, NoRow, JudgeRow, order-under-128, cycle-under-128, judged-book, WriterRow, written-book, shorter-than-the-book, run-called, GateRow, not-declared, is-withdrawn, all-kept, is-tangled, is-damaged, ReplayRow, replayed-book, no-call, answers-short}
+use Rattle.claims.specs.Table.{BookRow, NoRow, JudgeRow, order-under-128, cycle-under-128, judged-book, WriterRow, written-book, shorter-than-the-book, run-called, GateRow, not-declared, is-withdrawn, all-kept, is-tangled, is-damaged, NoCallAt, cut-off, not-53-or-57, behind-53, behind-57, ReplayRow, replayed-book, no-call, answers-short}
 use Rattle.claims.specs.Demands.{TurnsAway, BuffersUnchanged, AnswersUnchanged, WithoutRuns, Demand1}
 use Rattle.claims.proofs.Table.{refused-row, row-refused, row-single, accepted-no-row}
 
@@ -263,6 +264,42 @@ bad-low at (o ∷ r ∷ bs) = go (is-call o) (bad-low (at + 2) bs)
     go true l = omega arith
     go false l = omega arith
 
+-- a bad call by the table is the one that the function finds; the list stands at the offset k
+no-call-bad : {at : ℕ} {bs : List ℕ} → NoCallAt bs at → (k : ℕ) → (bad-at k bs ≡ k + at) × (at < length bs)
+no-call-bad cut-off k = (omega arith, omega arith)
+no-call-bad (not-53-or-57 {o} {r} {bs} n m) k = let e : bad-at k (o ∷ r ∷ bs) ≡ k = rw (ne-eqb o 0x53 n, ne-eqb o 0x57 m) in (omega arith, omega arith)
+no-call-bad (behind-53 b) k = let h = no-call-bad b (k + 2) in (omega (arith, h .0), omega (arith, h .1))
+no-call-bad (behind-57 b) k = let h = no-call-bad b (k + 2) in (omega (arith, h .0), omega (arith, h .1))
+
+-- and back: the function's offset, of a list at the offset k, is the table's
+abbrev Found : ℕ → List ℕ → Type 0
+Found k bs = (at : ℕ) × ((bad-at k bs ≡ k + at) × NoCallAt bs at)
+
+bad-found : (k : ℕ) (bs : List ℕ) → bad-at k bs < k + length bs → Found k bs
+bad-found k [] h = absurd (omega arith)
+bad-found k (o ∷ []) h = (0, (omega arith, cut-off))
+bad-found k (o ∷ r ∷ bs) h = go (ℕ-discrete o 0x53) (ℕ-discrete o 0x57) (bad-found (k + 2) bs)
+  where
+    further : ((at : ℕ) → NoCallAt bs at → NoCallAt (o ∷ r ∷ bs) (suc (suc at))) → bad-at k (o ∷ r ∷ bs) ≡ bad-at (k + 2) bs
+        → (bad-at (k + 2) bs < k + 2 + length bs → Found (k + 2) bs) → Found k (o ∷ r ∷ bs)
+    further g e f = let x = f (omega arith) in (suc (suc (x .0)), (omega (arith, x .1 .0), g (x .0) (x .1 .1)))
+
+    go : Dec (o ≡ 0x53) → Dec (o ≡ 0x57) → (bad-at (k + 2) bs < k + 2 + length bs → Found (k + 2) bs) → Found k (o ∷ r ∷ bs)
+    go (yes e) d f = further (λ at b. rw e (behind-53 b)) (rw (eq-eqb o 0x53 e)) f
+    go (no n) (yes e) f = further (λ at b. rw e (behind-57 b)) (rw (ne-eqb o 0x53 n, eq-eqb o 0x57 e)) f
+    go (no n) (no m) f = let e : bad-at k (o ∷ r ∷ bs) ≡ k = rw (ne-eqb o 0x53 n, ne-eqb o 0x57 m) in (0, (omega arith, not-53-or-57 n m))
+
+bad-no-call : (bs : List ℕ) → bad-at 0 bs < length bs → NoCallAt bs (bad-at 0 bs)
+bad-no-call bs h = let x = bad-found 0 bs (omega arith) in let e : bad-at 0 bs ≡ x .0 = omega (arith, x .1 .0) in rw e (x .1 .1)
+
+-- where the function finds none the table has none
+whole-calls : {at : ℕ} (bs : List ℕ) → eqb (bad-at 0 bs) (length bs) ≡ true → ¬ NoCallAt bs at
+whole-calls bs e n = let h = no-call-bad n 0 in omega (arith, h .0, h .1, eqb-true (bad-at 0 bs) (length bs) e)
+
+-- and the list is two bytes a call
+whole-bytes : (bs : List ℕ) → eqb (bad-at 0 bs) (length bs) ≡ true → length bs ≡ 2 * length (calls-of bs)
+whole-bytes bs e = two-each 0 bs (omega (arith, eqb-true (bad-at 0 bs) (length bs) e))
+
 module _ (s calls answers : List ℕ) (U : Type 0) where
   abbrev ReplayTurns : Played → Type 0
   ReplayTurns p = TurnsAway (ReplayRow s calls answers) (played-numbers p) U
@@ -277,29 +314,29 @@ module _ (s calls answers : List ℕ) (U : Type 0) where
     play-accepted : (whole fits : Bool) → eqb (bad-at 0 calls) (length calls) ≡ whole → leb (2 * length (calls-of calls)) (length answers) ≡ fits
         → (((n : ℕ) → by-calls whole fits ≢ Done n) → U) → ReplayTurns (by-calls whole fits)
     play-accepted false fits p q u =
-        turned (ReplayRow s calls answers) U (refused-with NoCall (bad-at 0 calls)) (no-call (accepted-no-row s c e) low) refl (u (λ n k. let z : _≡_ {A = ℕ} 0 1 = cc in omega arith)) only-24
+        turned (ReplayRow s calls answers) U (refused-with NoCall (bad-at 0 calls)) (no-call (accepted-no-row s c e) (bad-no-call calls low)) refl (u (λ n k. let z : _≡_ {A = ℕ} 0 1 = cc in omega arith)) only-24
       where
         low : bad-at 0 calls < length calls
         low = let n : bad-at 0 calls ≢ length calls = eqb-false (bad-at 0 calls) (length calls) p in omega (arith, bad-low 0 calls)
 
         only-24 : (m at : ℕ) → ReplayRow s calls answers m at → (24 ≡ m) × (bad-at 0 calls ≡ at)
         only-24 m at (replayed-book x) = absurd (accepted-no-row s c e m at x)
-        only-24 m at (no-call x l) = (refl, refl)
-        only-24 m at (answers-short x k l) = absurd (eqb-false (bad-at 0 calls) (length calls) p k)
+        only-24 m at (no-call x l) = (refl, omega (arith, no-call-bad l 0 .0))
+        only-24 m at (answers-short x k l) = absurd (k (bad-at 0 calls) (bad-no-call calls low))
     play-accepted true false p q u =
-        turned (ReplayRow s calls answers) U (refused-with AnswersShort 0) (answers-short (accepted-no-row s c e) (eqb-true (bad-at 0 calls) (length calls) p) (leb-false (2 * length (calls-of calls)) (length answers) q)) refl
+        turned (ReplayRow s calls answers) U (refused-with AnswersShort 0) (answers-short (accepted-no-row s c e) (λ at n. whole-calls calls p n) (omega (arith, leb-false (2 * length (calls-of calls)) (length answers) q, whole-bytes calls p))) refl
         (u (λ n k. let z : _≡_ {A = ℕ} 0 1 = cc in omega arith)) only-25
       where
         only-25 : (m at : ℕ) → ReplayRow s calls answers m at → (25 ≡ m) × (0 ≡ at)
         only-25 m at (replayed-book x) = absurd (accepted-no-row s c e m at x)
-        only-25 m at (no-call x l) = absurd (omega (arith, eqb-true (bad-at 0 calls) (length calls) p))
+        only-25 m at (no-call x l) = absurd (whole-calls calls p l)
         only-25 m at (answers-short x k l) = (refl, refl)
     play-accepted true true p q u = carried (ReplayRow s calls answers) U (value-of (length (calls-of calls))) refl no-row
       where
         no-row : (m at : ℕ) → ¬ ReplayRow s calls answers m at
         no-row m at (replayed-book x) = accepted-no-row s c e m at x
-        no-row m at (no-call x l) = omega (arith, eqb-true (bad-at 0 calls) (length calls) p)
-        no-row m at (answers-short x k l) = omega (arith, leb-true (2 * length (calls-of calls)) (length answers) q)
+        no-row m at (no-call x l) = whole-calls calls p l
+        no-row m at (answers-short x k l) = omega (arith, leb-true (2 * length (calls-of calls)) (length answers) q, whole-bytes calls p)
 
   play-turns : (o : Outcome) → read s ≡ o → (((n : ℕ) → played-by o calls (length answers) ≢ Done n) → U) → ReplayTurns (played-by o calls (length answers))
   play-turns (refused cause at) e u =
@@ -317,6 +354,22 @@ replay-turns : (s calls answers answers′ : List ℕ) (r : Replayed) → Replay
 replay-turns s calls answers answers′ r w =
     rw (w .played) (play-turns s calls answers (AnswersUnchanged s answers answers′ (r .gate)) (read s) refl
     (λ n. let u = w .refused-unchanged (rw (w .played) n) in record { buffer = u .buffer; book = w .book; state = u .state }))
+
+-- where no row applies all calls are made
+pub all-played : (s calls answers answers′ : List ℕ) (r : Replayed) → Replays s calls answers answers′ r → (c : Contents) → read s ≡ accepted c → ((m at : ℕ) → ¬ ReplayRow s calls answers m at)
+    → r .played ≡ Done (length (calls-of calls))
+all-played s calls answers answers′ r w c e none =
+    w .played ∙ ap (λ (o : Outcome). played-by o calls (length answers)) e ∙ go (eqb (bad-at 0 calls) (length calls)) (leb (2 * length (calls-of calls)) (length answers)) refl refl
+  where
+    turns : (whole fits : Bool) → eqb (bad-at 0 calls) (length calls) ≡ whole → leb (2 * length (calls-of calls)) (length answers) ≡ fits
+        → TurnsAway (ReplayRow s calls answers) (played-numbers (by-calls s calls answers (Unit {0}) c e whole fits)) (Unit {0})
+    turns whole fits p q = play-accepted s calls answers (Unit {0}) c e whole fits p q (λ n. tt)
+
+    go : (whole fits : Bool) → eqb (bad-at 0 calls) (length calls) ≡ whole → leb (2 * length (calls-of calls)) (length answers) ≡ fits
+        → by-calls s calls answers (Unit {0}) c e whole fits ≡ Done (length (calls-of calls))
+    go true true p q = refl
+    go true false p q = absurd (none 25 0 (turns true false p q .row (λ z. omega arith)))
+    go false fits p q = absurd (none 24 (bad-at 0 calls) (turns false fits p q .row (λ z. omega arith)))
 
 -- ---- the program's text
 

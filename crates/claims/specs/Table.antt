@@ -1,7 +1,7 @@
 -- Document 01's table, "When something is turned away": what is wrong, the number of that refusal, and its place. First rows 1 to 11, of a book, then the
 -- calls' own. 24 and 25 are the replay's, 26 is the gate's on a record that is not sound. proofs/Table: a book is refused with a number at a place
 -- exactly where a row here says so.
-use Prim.Native.Nat.{ℕ, _+_, _*_, _≤_, _<_}
+use Prim.Native.Nat.{ℕ, suc, _+_, _≤_, _<_}
 use mathlib.Core.Path.{_≡_}
 use mathlib.Core.Logic.{_≢_}
 use mathlib.Core.List.{List, [], _∷_, _++_}
@@ -15,7 +15,6 @@ use Rattle.book.specs.TestOrder.{index-of, test-order}
 use Rattle.book.specs.Meaning.{conflict-of, unit-of}
 use Rattle.gate.specs.Plain.{Call, step as step-call, withdraw as withdraw-call, In, Eligible}
 use Rattle.gate.specs.Gate.{book-of, state-of, Sound}
-use Rattle.gate.specs.Replay.{calls-of, bad-at}
 use Rattle.gate.specs.declared.Gate.{Gate}
 
 -- the list ends in x
@@ -141,10 +140,17 @@ pub data GateRow (g : Gate) : Call → ℕ → ℕ → Type 0 where
   -- 26: a table of the record out of range, or not in agreement with another
   is-damaged : {x : Call} → ¬ Sound g → GateRow g x 26 0
 
+-- the first call of the list that is none, or is cut off, stands at the offset; a call is two bytes, 53 r or 57 r
+pub data NoCallAt : List ℕ → ℕ → Type 0 where
+  cut-off : {o : ℕ} → NoCallAt (o ∷ []) 0
+  not-53-or-57 : {o r : ℕ} {bs : List ℕ} → o ≢ 0x53 → o ≢ 0x57 → NoCallAt (o ∷ r ∷ bs) 0
+  behind-53 : {r at : ℕ} {bs : List ℕ} → NoCallAt bs at → NoCallAt (0x53 ∷ r ∷ bs) (suc (suc at))
+  behind-57 : {r at : ℕ} {bs : List ℕ} → NoCallAt bs at → NoCallAt (0x57 ∷ r ∷ bs) (suc (suc at))
+
 -- the replay of a list of calls: 1 to 11 come first, then 24, then 25
 pub data ReplayRow (s calls answers : List ℕ) : ℕ → ℕ → Type 0 where
   replayed-book : {n place : ℕ} → BookRow s n place → ReplayRow s calls answers n place
   -- 24: no call, or a cut-off one; its offset in the list
-  no-call : NoRow s → bad-at 0 calls < length calls → ReplayRow s calls answers 24 (bad-at 0 calls)
-  -- 25: the buffer of answers under two bytes a call
-  answers-short : NoRow s → bad-at 0 calls ≡ length calls → length answers < 2 * length (calls-of calls) → ReplayRow s calls answers 25 0
+  no-call : {at : ℕ} → NoRow s → NoCallAt calls at → ReplayRow s calls answers 24 at
+  -- 25: the buffer of answers under two bytes a call: shorter than the list
+  answers-short : NoRow s → ((at : ℕ) → ¬ NoCallAt calls at) → length answers < length calls → ReplayRow s calls answers 25 0

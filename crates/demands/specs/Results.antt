@@ -9,7 +9,7 @@ use Rattle.judge.specs.declared.Judgement.{Judgement}
 use Rattle.gate.specs.Plain.{Call, step, withdraw}
 use Rattle.gate.specs.Gate.{state-of}
 use Rattle.gate.specs.Demand.{Demand3}
-use Rattle.gate.specs.Replay.{calls-of, bad-at, answers-in}
+use Rattle.gate.specs.Replay.{calls-of, answers-in}
 use Rattle.gate.specs.declared.Gate.{Gate}
 use Rattle.gate.specs.declared.Replayed.{Replayed}
 use Rattle.gate.specs.declared.Played.the-variants.{Done}
@@ -64,9 +64,9 @@ pub record GateRefusals (g : Gate) (run : ℕ) (r : GateAnswers) : Type 0 where
 pub record Demand2Of (s order order′ cycle cycle′ : List ℕ) (r : Judgement) : Type 0 where
   pub holds : (c : Contents) → read s ≡ accepted c → step-limit ≤ length order → step-limit ≤ length cycle → Demand2 c order′ cycle′ r
 
--- demand 3 of a replay, over the answers in the buffer and the record, where the book is accepted, the list has whole calls only and the buffer has
--- room for two bytes a call: then all calls are made
+-- demand 3 of a replay, over the answers in the buffer and the record, where the book is accepted and no row turns the list or the buffer away: then all
+-- calls are made
 pub record Demand3Of (s calls answers answers′ : List ℕ) (r : Replayed) : Type 0 where
-  pub played : (c : Contents) → read s ≡ accepted c → bad-at 0 calls ≡ length calls → 2 * length (calls-of calls) ≤ length answers → r .played ≡ Done (length (calls-of calls))
-  pub holds : (c : Contents) → read s ≡ accepted c → bad-at 0 calls ≡ length calls → 2 * length (calls-of calls) ≤ length answers
+  pub all-made : (c : Contents) → read s ≡ accepted c → ((n place : ℕ) → ¬ ReplayRow s calls answers n place) → r .played ≡ Done (length (calls-of calls))
+  pub holds : (c : Contents) → read s ≡ accepted c → ((n place : ℕ) → ¬ ReplayRow s calls answers n place)
       → Demand3 s c (calls-of calls) (answers-in (take (2 * length (calls-of calls)) answers′)) (state-of (r .gate))

@@ -121,7 +121,7 @@ refused-of cause at (book-refused o p) e = cc
 refused-of cause at (book-accepted c) e = let z : _≡_ {A = ℕ} 0 1 = cc in absurd (omega arith)
 
 -- a list without a bad call has two bytes a call
-whole-calls : (at : ℕ) (bs : List ℕ) → bad-at at bs ≡ at + length bs → length bs ≡ 2 * length (calls-of bs)
+pub whole-calls : (at : ℕ) (bs : List ℕ) → bad-at at bs ≡ at + length bs → length bs ≡ 2 * length (calls-of bs)
 whole-calls at [] e = omega arith
 whole-calls at (o ∷ []) e = absurd (omega arith)
 whole-calls at (o ∷ r ∷ bs) e = go (is-call o) (λ e. whole-calls (at + 2) bs e) e

@@ -1,4 +1,4 @@
--- Demand 3 is part of what a replay promises, and all calls are made where neither 24 nor 25 applies.
+-- Demand 3 is part of what a replay promises, and all calls are made where no row applies.
 use Rattle.claims.proofs.Refusals.{all-played}
 use borrow.Author.Needs.{needs}
 use Rattle.demands.proofs.demand_3.Statement.{statement}
@@ -14,8 +14,8 @@ returns : tie.Need-returns
 returns c =
     let w = c .before .before .replay .ensures in
     record {
-      played = λ d e whole room. all-played w e whole room;
-      holds = λ d e whole room. w .calls-made d _ e (all-played w e whole room) .demand;
+      all-made = λ d e none. all-played _ _ _ _ _ w d e none;
+      holds = λ d e none. w .calls-made d _ e (all-played _ _ _ _ _ w d e none) .demand;
     }
 
 pub demand-3-spec : {M : Type 1} → statement M
