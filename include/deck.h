@@ -93,8 +93,8 @@ deck_answer deck_write(const uint8_t *book, size_t book_len, uint8_t *out, size_
    to it. A call refuses it by 26, and changes nothing, unless its tables are in range and agree with one another: `pairs`, `cuts` and `withdrawn`
    hold 0 and 1 alone; there are at most DECK_RUNS runs, DECK_RUN_STEPS steps in a run and DECK_STEPS in all, of kinds below DECK_KINDS; `total` is
    the sum of `lengths`; each of `counts` is how often the kept list has the run, at most its length, and `kept_count` is their sum; `lengths`,
-   `steps` and `kept` are 0 behind the runs, the steps and the kept steps. So is every record that deck_open and the calls leave. Any other that is
-   so is taken as the gate of the book, the kept list and the withdrawn runs that it holds. */
+   `steps` and `kept` are 0 behind the runs, the steps and the kept steps. So is every record that deck_open hands back, and that
+   a call leaves of such a one. Any other that is so is taken as the gate of the book, the kept list and the withdrawn runs that it holds. */
 typedef struct {
     uint8_t pairs[DECK_KINDS * DECK_KINDS]; /* 1 at a * DECK_KINDS + b for each listed pair of kinds a, b */
     uint8_t cuts[DECK_RUNS * DECK_RUN_STEPS * DECK_RUNS]; /* 1 at (r * DECK_RUN_STEPS + j) * DECK_RUNS + o for each cut in run r after its j-th step

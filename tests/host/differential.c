@@ -1,5 +1,5 @@
-/* Compares the proved calls with plain.c on many books from a fixed seed, whole and damaged, and on gates' records, as the calls leave them and damaged,
-   and checks the evidence of each verdict. Prints 'N passed, M failed', a count of books, and how many damaged records there were of each sort; it fails
+/* Compares the proved calls with plain.c on many books from a fixed seed, whole and damaged, and on gates' records, as the calls leave them and altered,
+   and checks the evidence of each verdict. Prints 'N passed, M failed', a count of books, and how many altered records there were of each sort; it fails
    where there were none. */
 #include "books.h"
 #include "plain.h"
@@ -11,7 +11,7 @@ enum { CALLS = 200 }; /* in a list, at most */
 enum { ROOM = DECK_BUFFER + 72 }; /* of each buffer, filled beforehand so that a stray byte shows */
 
 static const char *fault;
-static long damaged[2]; /* records: those not sound, those sound */
+static long altered[2]; /* records: those not sound, those sound */
 
 static int expect(int ok, const char *what) {
     if (!ok && !fault)
@@ -141,7 +141,7 @@ static void compare_call(deck_gate *record, int step, int run, int want, const c
 }
 
 /* Changes a record in one way, after which it may still be sound: some byte, every byte, a flag, a number, a step, a length, a count or a kept step. */
-static void damage_record(source *s, deck_gate *record) {
+static void alter_record(source *s, deck_gate *record) {
     static const uint64_t edges[] = {0, DECK_RUNS, DECK_RUNS + 1, DECK_STEPS, DECK_STEPS + 1, UINT64_MAX};
     uint64_t *numbers[] = {&record->declared, &record->total, &record->kept_count}, *number = numbers[below(s, 3)];
     unsigned runs = below(s, 2) ? DECK_RUNS : 2, steps = below(s, 2) ? DECK_STEPS : 4; /* most books have 2 and 4 */
@@ -209,27 +209,27 @@ static void damage_record(source *s, deck_gate *record) {
 }
 
 /* At times changes a copy of the record and makes a withdrawal and a step on it: where the copy is sound as on its plain gate, else refused by 26. */
-static void compare_damaged(const deck_gate *live) {
+static void compare_altered(const deck_gate *live) {
     static source s = {20261116}; /* of its own, so that the books stay as they are */
     deck_gate record = *live;
     plain_gate g;
     if (below(&s, 4))
         return;
     for (unsigned times = 1 + below(&s, 3); times > 0; times--)
-        damage_record(&s, &record);
+        alter_record(&s, &record);
     if (memcmp(&record, live, sizeof record) == 0)
         return;
     int sound = plain_sound(&record);
     if (sound)
         plain_gate_of(&record, &g);
-    damaged[sound]++;
+    altered[sound]++;
     for (int step = 0; step < 2; step++) {
         int run = (int)below(&s, below(&s, 4) ? DECK_RUNS : UINT8_MAX + 1);
-        compare_call(&record, step, run, sound ? plain_call(&g, step, run) : -DECK_GATE_DAMAGED, "gate: a call on a damaged record");
+        compare_call(&record, step, run, sound ? plain_call(&g, step, run) : -DECK_GATE_DAMAGED, "gate: a call on an altered record");
     }
 }
 
-/* Makes n calls one by one on a record and on the plain gate, and at times on a damaged copy of the record; compares the answers of a replay with theirs,
+/* Makes n calls one by one on a record and on the plain gate, and at times on an altered copy of the record; compares the answers of a replay with theirs,
    and checks demand 3's sentences. */
 static void compare_calls(const uint8_t *book, size_t len, const plain_book *b, const uint8_t *calls, size_t n, const uint8_t *answers) {
     static uint8_t kept[BOOK_ROOM];
@@ -241,7 +241,7 @@ static void compare_calls(const uint8_t *book, size_t len, const plain_book *b, 
     for (size_t i = 0; i < n; i++) {
         int run = calls[2 * i + 1], step = calls[2 * i] == 0x53, want = plain_call(&g, step, run);
         int kind = want < 0 ? 2 : step ? 0 : 1, value = want < 0 ? -want : step ? want : 0;
-        compare_damaged(&live);
+        compare_altered(&live);
         compare_call(&live, step, run, want, "gate: a call on the record");
         expect(same_gate(&live, &g), "gate: the record after a call");
         expect(answers[2 * i] == kind && answers[2 * i + 1] == value, "gate: an answer");
@@ -315,6 +315,6 @@ static const char *compare(source *s, const uint8_t *book, size_t len) {
 
 int main(void) {
     int status = test_books(20261115, BOOKS, compare);
-    printf("damaged records: %ld not sound, %ld sound\n", damaged[0], damaged[1]);
-    return status || !damaged[0] || !damaged[1];
+    printf("altered records: %ld not sound, %ld sound\n", altered[0], altered[1]);
+    return status || !altered[0] || !altered[1];
 }

@@ -38,6 +38,11 @@ module _ (c : Contents) (order order′ cycle cycle′ : List ℕ) where
   order-counted Tangled n j e = let z : _≡_ {A = ℕ} 0 1 = cc in absurd (omega arith)
   order-counted Passed n j e = j .count-is
 
+  tangled-otherwise : (v : Verdict) (n : ℕ) → JudgedAs (conflict-of c) (unit-of c) (c .history) order order′ cycle cycle′ v n → v ≢ Passed → v ≡ Tangled
+  tangled-otherwise (NotJudged cause place) n j e = absurd j
+  tangled-otherwise Passed n j e = absurd (e refl)
+  tangled-otherwise Tangled n j e = refl
+
   cycle-returned : (v : Verdict) (n : ℕ) → JudgedAs (conflict-of c) (unit-of c) (c .history) order order′ cycle cycle′ v n → v ≢ Passed
       → Cycle (conflict-of c) (unit-of c) (c .history) (take n cycle′)
   cycle-returned (NotJudged cause place) n j e = absurd j
@@ -54,6 +59,7 @@ demand-2 s c e order order′ cycle cycle′ r a b j = record {
   passes-exactly = bytes-passed order order′ cycle cycle′ s r j a b c e;
   order-returned = order-returned c order order′ cycle cycle′ (r .verdict) (r .count) judged;
   order-counted = order-counted c order order′ cycle cycle′ (r .verdict) (r .count) judged;
+  tangled-otherwise = tangled-otherwise c order order′ cycle cycle′ (r .verdict) (r .count) judged;
   cycle-returned = cycle-returned c order order′ cycle cycle′ (r .verdict) (r .count) judged;
   cycle-counted = cycle-counted c order order′ cycle cycle′ (r .verdict) (r .count) judged;
   uncut-exactly = uncut-passed order order′ cycle cycle′ s r j a b c e;

@@ -299,7 +299,7 @@ same-numbers : {A B : Type 0} (f : A → B) {a a′ : A} {r r′ : B} → r ≡ 
 same-numbers f e e′ h = e ∙ ap f h ∙ sym e′
 
 c-judged : (s order order′ order″ cycle cycle′ cycle″ : List ℕ) (r r′ : Judged) → JudgeCall s order order′ cycle cycle′ r → JudgeCall s order order″ cycle cycle″ r′
-    → EqualButCycle (value-of 2) (judged-numbers r) (judged-numbers r′) (r .count) (r′ .count) order′ order″ cycle′ cycle″
+    → EqualButCycle (verdict-numbers Tangled) (judged-numbers r) (judged-numbers r′) (r .count) (r′ .count) order′ order″ cycle′ cycle″
 c-judged s order order′ order″ cycle cycle′ cycle″ r r′ w w′ =
     let e = bytes-equal order order′ order″ cycle cycle′ cycle″ (w .judgement) (w′ .judgement) s (w .promise) (w′ .promise) in
     let numbers = ap judged-numbers (w .numbers) in

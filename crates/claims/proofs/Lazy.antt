@@ -21,7 +21,7 @@ use Rattle.judge.specs.declared.Verdict.the-variants.{Passed, Tangled}
 use Rattle.gate.specs.Plain.{step, Answer, place, refused, State, newly-opened, keep, Eligible, PlainCall, step-kept, none, next}
 use Rattle.gate.specs.Demand.{At, here, there, Moment}
 use Rattle.claims.specs.Demands.{Demand2}
-use Rattle.claims.specs.Lazy.{book-2, tangled, unwritten, LazyProgramsCaught}
+use Rattle.claims.specs.Lazy.{book-2, judged-tangled, unwritten, LazyProgramsCaught}
 
 -- ---- the books
 
@@ -131,7 +131,7 @@ no-cycle-of-zeros c zero w = omega (arith, w .least)
 no-cycle-of-zeros c (suc zero) w = omega (arith, w .least)
 no-cycle-of-zeros c (suc (suc k)) w = w .distinct 0 1 (omega arith) (w .least) refl
 
-cycle-length : (order′ cycle′ : List ℕ) (k : ℕ) → Demand2 (book-2 (0 ∷ 1 ∷ 1 ∷ 0 ∷ [])) order′ cycle′ (tangled k) → (2 ≤ k) × (k ≤ 4)
+cycle-length : (order′ cycle′ : List ℕ) (k : ℕ) → Demand2 (book-2 (0 ∷ 1 ∷ 1 ∷ 0 ∷ [])) order′ cycle′ (judged-tangled k) → (2 ≤ k) × (k ≤ 4)
 cycle-length order′ cycle′ k d = let w = d .cycle-returned tangled-not-passed in omega (arith, w .least, w .most, d .cycle-counted tangled-not-passed)
 
 outside : (k : ℕ) → (k < 2) ⊎ (4 < k) → ¬ ((2 ≤ k) × (k ≤ 4))

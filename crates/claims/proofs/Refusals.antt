@@ -28,7 +28,7 @@ use Rattle.judge.specs.declared.Verdict.the-variants.{Passed, Tangled, Refused 
 use Rattle.classes.specs.Tested.{tested-numbers, YesWhere, OutcomeTested, TestedAs}
 use Rattle.classes.specs.declared.Tested.{Tested}
 use Rattle.classes.specs.declared.Tested.the-variants.{Yes, No, Refused as NotTested}
-use Rattle.gate.specs.Plain.{Call, step, withdraw, Answer, place, refused as refused-by-number, State, PlainCall, step-refused, step-tangled, step-kept, withdraw-refused, withdraws, Refusal, not-declared as plain-not-declared, was-withdrawn, all-kept as plain-all-kept, newly-opened}
+use Rattle.gate.specs.Plain.{Call, step, withdraw, Answer, place, refused as refused-by-number, State, PlainCall, step-refused, step-tangled, step-kept, withdraw-refused, withdraws, Refusal, not-declared, was-withdrawn, all-kept, newly-opened}
 use Rattle.gate.specs.Gate.{answer-of, reply-numbers, book-of, state-of, Sound, opening-answer, opening-numbers, opened-book, OpenedAs, CalledAs, on-sound, on-damaged}
 use Rattle.gate.specs.Replay.{is-call, calls-of, bad-at, played-numbers, played-by, Replays}
 use Rattle.gate.specs.declared.Gate.{Gate}
@@ -40,10 +40,10 @@ use Rattle.gate.specs.declared.Reply.{Reply}
 use Rattle.gate.specs.declared.Reply.the-variants.{Place, Withdrawn, Refused}
 use Rattle.gate.proofs.PlainGate.{single}
 use Rattle.gate.proofs.Unchanged.{refused-unchanged}
-use Rattle.gate.proofs.Replays.{whole-calls as two-each}
+use Rattle.gate.proofs.Replays.{whole-calls}
 use Rattle.report.specs.Text.{Findings, Report, refused-at, accepted-with, text-of}
 use Rattle.report.specs.Reporting.{ReportOn, Reports}
-use Rattle.claims.specs.Table.{BookRow, NoRow, JudgeRow, order-under-128, cycle-under-128, judged-book, WriterRow, written-book, shorter-than-the-book, run-called, GateRow, not-declared, is-withdrawn, all-kept, is-tangled, is-damaged, NoCallAt, cut-off, not-53-or-57, behind-53, behind-57, ReplayRow, replayed-book, no-call, answers-short}
+use Rattle.claims.specs.Table.{BookRow, NoRow, JudgeRow, order-under-128, cycle-under-128, judged-book, WriterRow, written-book, shorter-than-the-book, run-called, GateRow, row-20, row-21, row-22, row-23, row-26, NoCallAt, cut-off, not-53-or-57, behind-53, behind-57, ReplayRow, replayed-book, no-call, answers-short}
 use Rattle.claims.specs.Demands.{TurnsAway, BuffersUnchanged, AnswersUnchanged, WithoutRuns, Demand1}
 use Rattle.claims.proofs.Table.{refused-row, row-refused, row-single, accepted-no-row}
 
@@ -193,39 +193,39 @@ refused-numbers (Refused cause) e = (cc, refl)
 module _ (g : Gate) (y : Sound g) where
   -- a row that applies is a rule of the plain gate
   row-rule : (x : Call) {m at : ℕ} → GateRow g x m at → PlainCall (book-of g) (state-of g) x (refused-by-number m) (state-of g) × (at ≡ 0)
-  row-rule (step r) (not-declared z d) = (step-refused (plain-not-declared d), refl)
-  row-rule (withdraw r) (not-declared z d) = (withdraw-refused (plain-not-declared d), refl)
-  row-rule (step r) (is-withdrawn z d w) = (step-refused (was-withdrawn d w), refl)
-  row-rule (withdraw r) (is-withdrawn z d w) = (withdraw-refused (was-withdrawn d w), refl)
-  row-rule (step r) (all-kept z d w l) = (step-refused (plain-all-kept d w l), refl)
-  row-rule (withdraw r) (all-kept z d w l) = (withdraw-refused (plain-all-kept d w l), refl)
-  row-rule (step r) (is-tangled z e t) = (step-tangled e t, refl)
-  row-rule x (is-damaged n) = absurd (n y)
+  row-rule (step r) (row-20 z d) = (step-refused (not-declared d), refl)
+  row-rule (withdraw r) (row-20 z d) = (withdraw-refused (not-declared d), refl)
+  row-rule (step r) (row-21 z d w) = (step-refused (was-withdrawn d w), refl)
+  row-rule (withdraw r) (row-21 z d w) = (withdraw-refused (was-withdrawn d w), refl)
+  row-rule (step r) (row-22 z d w l) = (step-refused (all-kept d w l), refl)
+  row-rule (withdraw r) (row-22 z d w l) = (withdraw-refused (all-kept d w l), refl)
+  row-rule (step r) (row-23 z e t) = (step-tangled e t, refl)
+  row-rule x (row-26 n) = absurd (n y)
 
   -- and back
   refusal-row : (x : Call) {cause : Cause} → Refusal (book-of g) (state-of g) (run-called x) cause → GateRow g x (number cause) 0
-  refusal-row x (plain-not-declared d) = not-declared y d
-  refusal-row x (was-withdrawn d w) = is-withdrawn y d w
-  refusal-row x (plain-all-kept d w l) = all-kept y d w l
+  refusal-row x (not-declared d) = row-20 y d
+  refusal-row x (was-withdrawn d w) = row-21 y d w
+  refusal-row x (all-kept d w l) = row-22 y d w l
 
   rule-row : {x : Call} {a : Answer} {h : State} (n : ℕ) → PlainCall (book-of g) (state-of g) x a h → a ≡ refused-by-number n → GateRow g x n 0
   rule-row {x} n (step-refused {cause = cause} p) e = let q : number cause ≡ n = cc in subst (λ (k : ℕ). GateRow g x k 0) q (refusal-row x p)
-  rule-row {x} n (step-tangled p t) e = let q : 23 ≡ n = cc in subst (λ (k : ℕ). GateRow g x k 0) q (is-tangled y p t)
+  rule-row {x} n (step-tangled p t) e = let q : 23 ≡ n = cc in subst (λ (k : ℕ). GateRow g x k 0) q (row-23 y p t)
   rule-row n (step-kept p t) e = let z : _≡_ {A = ℕ} 0 1 = cc in absurd (omega arith)
   rule-row {x} n (withdraw-refused {cause = cause} p) e = let q : number cause ≡ n = cc in subst (λ (k : ℕ). GateRow g x k 0) q (refusal-row x p)
   rule-row n (withdraws p) e = let z : _≡_ {A = ℕ} 0 1 = cc in absurd (omega arith)
 
 -- of a record that is not sound, 26 alone applies
 only-26 : (g : Gate) → ¬ Sound g → {x : Call} {m at : ℕ} → GateRow g x m at → (26 ≡ m) × (0 ≡ at)
-only-26 g n (not-declared y d) = absurd (n y)
-only-26 g n (is-withdrawn y d w) = absurd (n y)
-only-26 g n (all-kept y d w l) = absurd (n y)
-only-26 g n (is-tangled y p t) = absurd (n y)
-only-26 g n (is-damaged z) = (refl, refl)
+only-26 g n (row-20 y d) = absurd (n y)
+only-26 g n (row-21 y d w) = absurd (n y)
+only-26 g n (row-22 y d w l) = absurd (n y)
+only-26 g n (row-23 y p t) = absurd (n y)
+only-26 g n (row-26 z) = (refl, refl)
 
 module _ (g h : Gate) (x : Call) where
   call-turns : (a : Reply) → CalledAs g x a h → TurnsAway (GateRow g x) (reply-numbers a) (h ≡ g)
-  call-turns a (on-damaged n e f) = rw e (turned (GateRow g x) (h ≡ g) (refused-with Damaged 0) (is-damaged n) refl f (λ m at r. only-26 g n r))
+  call-turns a (on-damaged n e f) = rw e (turned (GateRow g x) (h ≡ g) (refused-with Damaged 0) (row-26 n) refl f (λ m at r. only-26 g n r))
   call-turns a (on-sound y w) = record {
     row = λ z. go a z (w .plain);
     no-value = λ z. none a z;
@@ -293,12 +293,12 @@ bad-no-call : (bs : List ℕ) → bad-at 0 bs < length bs → NoCallAt bs (bad-a
 bad-no-call bs h = let x = bad-found 0 bs (omega arith) in let e : bad-at 0 bs ≡ x .0 = omega (arith, x .1 .0) in rw e (x .1 .1)
 
 -- where the function finds none the table has none
-whole-calls : {at : ℕ} (bs : List ℕ) → eqb (bad-at 0 bs) (length bs) ≡ true → ¬ NoCallAt bs at
-whole-calls bs e n = let h = no-call-bad n 0 in omega (arith, h .0, h .1, eqb-true (bad-at 0 bs) (length bs) e)
+no-bad-call : {at : ℕ} (bs : List ℕ) → eqb (bad-at 0 bs) (length bs) ≡ true → ¬ NoCallAt bs at
+no-bad-call bs e n = let h = no-call-bad n 0 in omega (arith, h .0, h .1, eqb-true (bad-at 0 bs) (length bs) e)
 
 -- and the list is two bytes a call
 whole-bytes : (bs : List ℕ) → eqb (bad-at 0 bs) (length bs) ≡ true → length bs ≡ 2 * length (calls-of bs)
-whole-bytes bs e = two-each 0 bs (omega (arith, eqb-true (bad-at 0 bs) (length bs) e))
+whole-bytes bs e = whole-calls 0 bs (omega (arith, eqb-true (bad-at 0 bs) (length bs) e))
 
 module _ (s calls answers : List ℕ) (U : Type 0) where
   abbrev ReplayTurns : Played → Type 0
@@ -324,18 +324,18 @@ module _ (s calls answers : List ℕ) (U : Type 0) where
         only-24 m at (no-call x l) = (refl, omega (arith, no-call-bad l 0 .0))
         only-24 m at (answers-short x k l) = absurd (k (bad-at 0 calls) (bad-no-call calls low))
     play-accepted true false p q u =
-        turned (ReplayRow s calls answers) U (refused-with AnswersShort 0) (answers-short (accepted-no-row s c e) (λ at n. whole-calls calls p n) (omega (arith, leb-false (2 * length (calls-of calls)) (length answers) q, whole-bytes calls p))) refl
+        turned (ReplayRow s calls answers) U (refused-with AnswersShort 0) (answers-short (accepted-no-row s c e) (λ at n. no-bad-call calls p n) (omega (arith, leb-false (2 * length (calls-of calls)) (length answers) q, whole-bytes calls p))) refl
         (u (λ n k. let z : _≡_ {A = ℕ} 0 1 = cc in omega arith)) only-25
       where
         only-25 : (m at : ℕ) → ReplayRow s calls answers m at → (25 ≡ m) × (0 ≡ at)
         only-25 m at (replayed-book x) = absurd (accepted-no-row s c e m at x)
-        only-25 m at (no-call x l) = absurd (whole-calls calls p l)
+        only-25 m at (no-call x l) = absurd (no-bad-call calls p l)
         only-25 m at (answers-short x k l) = (refl, refl)
     play-accepted true true p q u = carried (ReplayRow s calls answers) U (value-of (length (calls-of calls))) refl no-row
       where
         no-row : (m at : ℕ) → ¬ ReplayRow s calls answers m at
         no-row m at (replayed-book x) = accepted-no-row s c e m at x
-        no-row m at (no-call x l) = whole-calls calls p l
+        no-row m at (no-call x l) = no-bad-call calls p l
         no-row m at (answers-short x k l) = omega (arith, leb-true (2 * length (calls-of calls)) (length answers) q, whole-bytes calls p)
 
   play-turns : (o : Outcome) → read s ≡ o → (((n : ℕ) → played-by o calls (length answers) ≢ Done n) → U) → ReplayTurns (played-by o calls (length answers))
@@ -353,7 +353,7 @@ replay-turns : (s calls answers answers′ : List ℕ) (r : Replayed) → Replay
     → TurnsAway (ReplayRow s calls answers) (played-numbers (r .played)) (AnswersUnchanged s answers answers′ (r .gate))
 replay-turns s calls answers answers′ r w =
     rw (w .played) (play-turns s calls answers (AnswersUnchanged s answers answers′ (r .gate)) (read s) refl
-    (λ n. let u = w .refused-unchanged (rw (w .played) n) in record { buffer = u .buffer; book = w .book; state = u .state }))
+    (λ n. let u = w .refused-unchanged (rw (w .played) n) in record { replay = u; book = w .book }))
 
 -- where no row applies all calls are made
 pub all-played : (s calls answers answers′ : List ℕ) (r : Replayed) → Replays s calls answers answers′ r → (c : Contents) → read s ≡ accepted c → ((m at : ℕ) → ¬ ReplayRow s calls answers m at)
@@ -393,13 +393,13 @@ report-accepted s text text′ n w none = go (read s) refl (w .report) (w .repor
 pub demand-1 : Demand1
 unfolding Turns
 demand-1 = record {
-  read-book = read-turns;
+  read-bytes = read-turns;
   deck-read = λ s r h. rw (h .numbers) (outcome-turns s (Unit {0}) (read s) refl (λ cause at e. tt));
-  judge-book = judge-turns;
+  judge-bytes = judge-turns;
   deck-judge = λ s order order′ cycle cycle′ r h. rw (h .numbers) (judge-turns s order order′ cycle cycle′ (h .judgement) (h .promise));
-  test-book = test-turns;
+  test-bytes = test-turns;
   deck-test = λ P s r h. rw (h .numbers) (test-turns P s (h .tested) (h .promise));
-  write-book = write-turns;
+  write-bytes = write-turns;
   deck-write = λ s out out′ r h. rw (h .numbers) (write-turns s out out′ (h .written) (h .promise));
   open-gate = open-turns;
   deck-open = λ s r h. rw (h .numbers) (without-value (BookRow s) (WithoutRuns (h .opened .gate)) (opening-numbers (h .opened .answer)) (open-turns s (h .opened) (h .promise)));
@@ -412,4 +412,4 @@ demand-1 = record {
 }
   where
     buffer-alone : {R : ℕ → ℕ → Type 0} {n : Numbers} {s answers answers′ : List ℕ} {g : Gate} → TurnsAway R n (AnswersUnchanged s answers answers′ g) → TurnsAway R n (answers′ ≡ answers)
-    buffer-alone t = record { row = t .row; no-value = t .no-value; unchanged = λ z. t .unchanged z .buffer; refused-by = t .refused-by }
+    buffer-alone t = record { row = t .row; no-value = t .no-value; unchanged = λ z. t .unchanged z .replay .buffer; refused-by = t .refused-by }

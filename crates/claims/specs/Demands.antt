@@ -1,5 +1,5 @@
 -- The demands, sentence by sentence, as statements about every answer that meets the public calls' contracts. What the calls' own proofs say
--- besides, for every input: they never trap, they end, and they touch no memory but the lent buffers. Demand 3 is gate's `Demand3`
+-- besides, for every input: they never trap, they end, and they touch no memory but the lent buffers and the lent record. Demand 3 is gate's `Demand3`
 -- (crates/gate/specs/Demand.antt), and the twelve rows are theory's `TwelveHistories` (crates/theory/specs/Rows.antt); both stand there once.
 use Prim.Native.Nat.{ℕ, _≤_}
 use mathlib.Core.Path.{_≡_}
@@ -19,14 +19,14 @@ use Rattle.writer.specs.declared.Written.{Written}
 use Rattle.judge.specs.Judged.{verdict-numbers}
 use Rattle.judge.specs.Judge.{BytesJudged}
 use Rattle.judge.specs.declared.Judgement.{Judgement}
-use Rattle.judge.specs.declared.Verdict.the-variants.{Passed}
+use Rattle.judge.specs.declared.Verdict.the-variants.{Passed, Tangled}
 use Rattle.classes.specs.Tested.{tested-numbers, TestedAs}
 use Rattle.classes.specs.declared.Tested.{Tested}
 use Rattle.gate.specs.Plain.{Call, Answer as PlainAnswer, newly-opened}
 use Rattle.gate.specs.Gate.{reply-numbers, book-of, state-of, opening-numbers, opened-book, OpenedAs, CalledAs}
 use Rattle.gate.specs.Chain.{Chain}
 use Rattle.gate.specs.Demand.{Demand3}
-use Rattle.gate.specs.Replay.{played-numbers, Replays}
+use Rattle.gate.specs.Replay.{played-numbers, Unchanged, Replays}
 use Rattle.gate.specs.declared.Gate.{Gate}
 use Rattle.gate.specs.declared.Opened.{Opened}
 use Rattle.gate.specs.declared.Replayed.{Replayed}
@@ -39,14 +39,14 @@ use Rattle.capi.specs.declared.Judged.{Judged}
 use Rattle.capi.specs.declared.OpenedGate.{OpenedGate}
 use Rattle.claims.specs.Table.{BookRow, NoRow, JudgeRow, WriterRow, GateRow, ReplayRow}
 
--- Demand 1, of a call that answers the numbers n, where the rows R of document 01's table (Table) are its refusals, and Unchanged says that every lent byte
--- and the record are as at entry.
-pub record TurnsAway (R : ℕ → ℕ → Type 0) (n : Numbers) (Unchanged : Type 0) : Type 0 where
+-- Demand 1, of a call that answers the numbers n, where the rows R of document 01's table (Table) are its refusals, and Same says that every lent byte
+-- and the record are as at entry; of a book or a gate that a call hands back, that it is the one without runs, and of a replay's gate, that it is as opened.
+pub record TurnsAway (R : ℕ → ℕ → Type 0) (n : Numbers) (Same : Type 0) : Type 0 where
   -- Each refusal has the number and place in document 01,
   pub row : n .number ≢ 0 → R (n .number) (n .place)
   pub no-value : n .number ≢ 0 → n .value ≡ 0
   -- and nothing refused changes a buffer or the gate.
-  pub unchanged : n .number ≢ 0 → Unchanged
+  pub unchanged : n .number ≢ 0 → Same
   -- Where a row applies, the call is refused with its number, at its place.
   pub refused-by : (m place : ℕ) → R m place → (n .number ≡ m) × (n .place ≡ place)
 
@@ -56,11 +56,10 @@ pub record BuffersUnchanged (order order′ cycle cycle′ : List ℕ) (count : 
   pub cycle-same : cycle′ ≡ cycle
   pub no-count : count ≡ 0
 
--- a refused replay leaves the buffer of answers and the gate as opening it left them
+-- a refused replay leaves the buffer of answers as it was, and the gate as opening left it
 pub record AnswersUnchanged (s answers answers′ : List ℕ) (g : Gate) : Type 0 where
-  pub buffer : answers′ ≡ answers
+  pub replay : Unchanged answers answers′ g
   pub book : book-of g ≡ opened-book (read s)
-  pub state : state-of g ≡ newly-opened
 
 -- a refused opening hands back, beside number and place, the gate of a book without runs
 pub record WithoutRuns (g : Gate) : Type 0 where
@@ -77,18 +76,18 @@ judged-numbers r = record { number = r .number; place = r .place; value = r .ver
 abbrev pub opened-numbers : OpenedGate → Numbers
 opened-numbers r = record { number = r .number; place = r .place; value = 0 }
 
--- Demand 1 of every call: by its contract, its refusals are these rows. Unchanged is Unit where a call is lent nothing that it could write to.
+-- Demand 1 of every call: by its contract, its refusals are these rows. Same is Unit where a call is lent nothing that it could write to.
 pub record Demand1 : Type 1 where
-  pub read-book : (s : List ℕ) (r : Reading) → ReadAs (read s) r → TurnsAway (BookRow s) (reading-numbers (outcome-of r)) (r .book ≡ empty-book)
+  pub read-bytes : (s : List ℕ) (r : Reading) → ReadAs (read s) r → TurnsAway (BookRow s) (reading-numbers (outcome-of r)) (r .book ≡ empty-book)
   pub deck-read : (s : List ℕ) (r : Answered) → ReadCall s r → TurnsAway (BookRow s) (answered-numbers r) (Unit {0})
-  pub judge-book : (s order order′ cycle cycle′ : List ℕ) (r : Judgement) → BytesJudged order order′ cycle cycle′ s r
+  pub judge-bytes : (s order order′ cycle cycle′ : List ℕ) (r : Judgement) → BytesJudged order order′ cycle cycle′ s r
       → TurnsAway (JudgeRow s order cycle) (verdict-numbers (r .verdict)) (BuffersUnchanged order order′ cycle cycle′ (r .count))
   pub deck-judge : (s order order′ cycle cycle′ : List ℕ) (r : Judged) → JudgeCall s order order′ cycle cycle′ r
       → TurnsAway (JudgeRow s order cycle) (judged-numbers r) (BuffersUnchanged order order′ cycle cycle′ (r .count))
   -- the four class tests, the order check, the cycle check and the arc test; P is what they ask of the contents
-  pub test-book : (P : Contents → Type 0) (s : List ℕ) (r : Tested) → TestedAs P s r → TurnsAway (BookRow s) (tested-numbers r) (Unit {0})
+  pub test-bytes : (P : Contents → Type 0) (s : List ℕ) (r : Tested) → TestedAs P s r → TurnsAway (BookRow s) (tested-numbers r) (Unit {0})
   pub deck-test : (P : Contents → Type 0) (s : List ℕ) (r : Answered) → TestCall P s r → TurnsAway (BookRow s) (answered-numbers r) (Unit {0})
-  pub write-book : (s out out′ : List ℕ) (r : Written) → Wrote s out out′ r → TurnsAway (WriterRow s out) (written-numbers r) (out′ ≡ out)
+  pub write-bytes : (s out out′ : List ℕ) (r : Written) → Wrote s out out′ r → TurnsAway (WriterRow s out) (written-numbers r) (out′ ≡ out)
   pub deck-write : (s out out′ : List ℕ) (r : Answered) → WriteCall s out out′ r → TurnsAway (WriterRow s out) (answered-numbers r) (out′ ≡ out)
   pub open-gate : (s : List ℕ) (o : Opened) → OpenedAs (read s) o → TurnsAway (BookRow s) (opening-numbers (o .answer)) (WithoutRuns (o .gate))
   pub deck-open : (s : List ℕ) (r : OpenedGate) → OpenCall s r → TurnsAway (BookRow s) (opened-numbers r) (WithoutRuns (r .gate))
@@ -112,6 +111,7 @@ pub record Demand2 (c : Contents) (order′ cycle′ : List ℕ) (r : Judgement)
   pub order-returned : r .verdict ≡ Passed → RelativelySerialOrder (conflict-of c) (unit-of c) (c .history) (take (r .count) order′)
   pub order-counted : r .verdict ≡ Passed → r .count ≡ length (c .history)
   -- and otherwise a cycle of the published graph.
+  pub tangled-otherwise : r .verdict ≢ Passed → r .verdict ≡ Tangled
   pub cycle-returned : r .verdict ≢ Passed → Cycle (conflict-of c) (unit-of c) (c .history) (take (r .count) cycle′)
   pub cycle-counted : r .verdict ≢ Passed → r .count ≡ length (take (r .count) cycle′)
   -- Without cuts, it passes exactly the conflict serializable histories.

@@ -11,6 +11,7 @@ use Rattle.book.specs.Format.{Contents, Outcome, accepted}
 use Rattle.book.specs.Numbers.{value-of}
 use Rattle.book.specs.Meaning.{conflict-of, unit-of}
 use Rattle.book.specs.Book.{ReadAs}
+use Rattle.judge.specs.Judged.{verdict-numbers}
 use Rattle.judge.specs.Judge.{BytesJudged}
 use Rattle.judge.specs.declared.Judgement.{Judgement}
 use Rattle.judge.specs.declared.Verdict.the-variants.{Tangled}
@@ -36,13 +37,13 @@ AtMostOne {R} Meets = (r r′ : R) → Meets r → Meets r′ → r ≡ r′
 abbrev pub AtMostOnePair : {A B : Type 0} → (A → B → Type 0) → Type 0
 AtMostOnePair {A} {B} Meets = (a a′ : A) (b b′ : B) → Meets a b → Meets a′ b′ → (a ≡ a′) × (b ≡ b′)
 
--- two results of the judge, each with its verdict, count, and order and cycle buffers after the call: equal, but for the cycle of a tangled history,
--- which is the first bytes of the cycle buffer, as many as the count
-pub record EqualButCycle {A : Type 0} (tangled v v′ : A) (count count′ : ℕ) (order order′ cycle cycle′ : List ℕ) : Type 0 where
+-- two results of the judge, each with its verdict, count, and order and cycle buffers after the call: equal, but for the cycle of a tangled history, whose
+-- verdict is `free`: the first bytes of the cycle buffer, as many as the count
+pub record EqualButCycle {A : Type 0} (free v v′ : A) (count count′ : ℕ) (order′ order″ cycle′ cycle″ : List ℕ) : Type 0 where
   pub verdicts : v ≡ v′
-  pub orders : order ≡ order′
-  pub counts : v ≢ tangled → count ≡ count′
-  pub cycles : v ≢ tangled → cycle ≡ cycle′
+  pub orders : order′ ≡ order″
+  pub counts : v ≢ free → count ≡ count′
+  pub cycles : v ≢ free → cycle′ ≡ cycle″
 
 -- a report without the places of its cycle
 abbrev pub verdict-alone : ReportVerdict → ReportVerdict
@@ -85,7 +86,7 @@ pub record Determined : Type 1 where
   pub c-reading : (s : List ℕ) → AtMostOne (ReadCall s)
   pub c-judging : (s order order′ order″ cycle cycle′ cycle″ : List ℕ) (r r′ : Judged)
       → JudgeCall s order order′ cycle cycle′ r → JudgeCall s order order″ cycle cycle″ r′
-      → EqualButCycle (value-of 2) (judged-numbers r) (judged-numbers r′) (r .count) (r′ .count) order′ order″ cycle′ cycle″
+      → EqualButCycle (verdict-numbers Tangled) (judged-numbers r) (judged-numbers r′) (r .count) (r′ .count) order′ order″ cycle′ cycle″
   pub c-judging-rest : (s order order′ cycle cycle′ : List ℕ) (r : Judged) → JudgeCall s order order′ cycle cycle′ r → drop (r .count) cycle′ ≡ drop (r .count) cycle
   pub c-testing : (P : Contents → Type 0) (s : List ℕ) → AtMostOne (TestCall P s)
   pub c-writing : (s before : List ℕ) → AtMostOnePair (WriteCall s before)

@@ -19,11 +19,11 @@ abbrev pub book-2 : List ℕ → Contents
 book-2 h = contents pairs runs-2 [] h
 
 -- the judge's answers, with their counts
-abbrev pub passed : ℕ → Judgement
-passed k = record { verdict = Passed; count = k }
+abbrev pub judged-passed : ℕ → Judgement
+judged-passed k = record { verdict = Passed; count = k }
 
-abbrev pub tangled : ℕ → Judgement
-tangled k = record { verdict = Tangled; count = k }
+abbrev pub judged-tangled : ℕ → Judgement
+judged-tangled k = record { verdict = Tangled; count = k }
 
 -- a buffer of zeros, as it was lent
 abbrev pub unwritten : List ℕ
@@ -38,13 +38,13 @@ pub record LazyProgramsCaught : Type 0 where
   pub gate-always-admits : (s h : List ℕ) (g : State)
       → ¬ Demand3 s (book-2 h) (step 0 ∷ step 1 ∷ step 1 ∷ step 0 ∷ []) (place 0 ∷ place 1 ∷ place 2 ∷ place 3 ∷ []) g
   -- a judge that hands every history back as its order: row 3
-  pub judge-hands-back : (rest cycle′ : List ℕ) → ¬ Demand2 (book-2 (0 ∷ 1 ∷ 0 ∷ 1 ∷ [])) (0 ∷ 1 ∷ 0 ∷ 1 ∷ rest) cycle′ (passed 4)
+  pub judge-hands-back : (rest cycle′ : List ℕ) → ¬ Demand2 (book-2 (0 ∷ 1 ∷ 0 ∷ 1 ∷ [])) (0 ∷ 1 ∷ 0 ∷ 1 ∷ rest) cycle′ (judged-passed 4)
   -- a judge that calls every history tangled: row 2
-  pub judge-always-tangled : (order′ cycle′ : List ℕ) (k : ℕ) → ¬ Demand2 (book-2 (0 ∷ 0 ∷ 1 ∷ 1 ∷ [])) order′ cycle′ (tangled k)
+  pub judge-always-tangled : (order′ cycle′ : List ℕ) (k : ℕ) → ¬ Demand2 (book-2 (0 ∷ 0 ∷ 1 ∷ 1 ∷ [])) order′ cycle′ (judged-tangled k)
   -- a judge that writes no bytes: of the order in row 3, and of the cycle in row 4
-  pub judge-writes-no-order : (cycle′ : List ℕ) → ¬ Demand2 (book-2 (0 ∷ 1 ∷ 0 ∷ 1 ∷ [])) unwritten cycle′ (passed 4)
-  pub judge-writes-no-cycle : (order′ : List ℕ) (k : ℕ) → ¬ Demand2 (book-2 (0 ∷ 1 ∷ 1 ∷ 0 ∷ [])) order′ unwritten (tangled k)
+  pub judge-writes-no-order : (cycle′ : List ℕ) → ¬ Demand2 (book-2 (0 ∷ 1 ∷ 0 ∷ 1 ∷ [])) unwritten cycle′ (judged-passed 4)
+  pub judge-writes-no-cycle : (order′ : List ℕ) (k : ℕ) → ¬ Demand2 (book-2 (0 ∷ 1 ∷ 1 ∷ 0 ∷ [])) order′ unwritten (judged-tangled k)
   -- a judge that invents the order's count: row 3, of 4 steps
-  pub judge-invents-order-count : (order′ cycle′ : List ℕ) (k : ℕ) → k ≢ 4 → ¬ Demand2 (book-2 (0 ∷ 1 ∷ 0 ∷ 1 ∷ [])) order′ cycle′ (passed k)
+  pub judge-invents-order-count : (order′ cycle′ : List ℕ) (k : ℕ) → k ≢ 4 → ¬ Demand2 (book-2 (0 ∷ 1 ∷ 0 ∷ 1 ∷ [])) order′ cycle′ (judged-passed k)
   -- a judge that invents the cycle's length: row 4, whose cycles have 2 to 4 places
-  pub judge-invents-cycle-length : (order′ cycle′ : List ℕ) (k : ℕ) → (k < 2) ⊎ (4 < k) → ¬ Demand2 (book-2 (0 ∷ 1 ∷ 1 ∷ 0 ∷ [])) order′ cycle′ (tangled k)
+  pub judge-invents-cycle-length : (order′ cycle′ : List ℕ) (k : ℕ) → (k < 2) ⊎ (4 < k) → ¬ Demand2 (book-2 (0 ∷ 1 ∷ 1 ∷ 0 ∷ [])) order′ cycle′ (judged-tangled k)

@@ -1,6 +1,6 @@
 -- Document 01's table, "When something is turned away": what is wrong, the number of that refusal, and its place. First rows 1 to 11, of a book, then the
--- calls' own. 24 and 25 are the replay's, 26 is the gate's on a record that is not sound. proofs/Table: a book is refused with a number at a place
--- exactly where a row here says so.
+-- calls' own. 24 and 25, the replay's, and 26, the gate's on a record that is not sound, follow document 01's rule for refusals added later.
+-- proofs/Table: a book is refused with a number at a place exactly where a row here says so.
 use Prim.Native.Nat.{ℕ, suc, _+_, _≤_, _<_}
 use mathlib.Core.Path.{_≡_}
 use mathlib.Core.Logic.{_≢_}
@@ -105,7 +105,7 @@ module _ (s : List ℕ) where
 abbrev pub NoRow : List ℕ → Type 0
 NoRow s = (n place : ℕ) → ¬ BookRow s n place
 
--- ---- rows 12, 13 and 20 to 26: a call's refusal, number and place; where the table says "number only" the place is 0
+-- ---- 12, 13 and 20 to 26: a call's refusal, number and place; where the table says "number only" the place is 0
 
 -- the judge: 12 comes first, then 1 to 11
 pub data JudgeRow (s order cycle : List ℕ) : ℕ → ℕ → Type 0 where
@@ -128,17 +128,17 @@ run-called (withdraw-call r) = r
 -- step and withdraw on a record: 26 comes first, then 20, 21, 22 and, for a step, 23
 pub data GateRow (g : Gate) : Call → ℕ → ℕ → Type 0 where
   -- 20: run not declared
-  not-declared : {x : Call} → Sound g → length (book-of g .runs) ≤ run-called x → GateRow g x 20 0
+  row-20 : {x : Call} → Sound g → length (book-of g .runs) ≤ run-called x → GateRow g x 20 0
   -- 21: run withdrawn
-  is-withdrawn : {x : Call} → Sound g → run-called x < length (book-of g .runs) → In (run-called x) (state-of g .withdrawn) → GateRow g x 21 0
+  row-21 : {x : Call} → Sound g → run-called x < length (book-of g .runs) → In (run-called x) (state-of g .withdrawn) → GateRow g x 21 0
   -- 22: all steps of the run kept
-  all-kept : {x : Call} → Sound g → run-called x < length (book-of g .runs) → ¬ In (run-called x) (state-of g .withdrawn)
+  row-22 : {x : Call} → Sound g → run-called x < length (book-of g .runs) → ¬ In (run-called x) (state-of g .withdrawn)
       → getD (lengths (book-of g .runs)) (run-called x) 0 ≤ count (state-of g .kept) (run-called x) → GateRow g x 22 0
   -- 23: tangled
-  is-tangled : {r : ℕ} → Sound g → Eligible (book-of g) (state-of g) r
+  row-23 : {r : ℕ} → Sound g → Eligible (book-of g) (state-of g) r
       → ¬ RelativelySerializable (conflict-of (book-of g)) (unit-of (book-of g)) (state-of g .kept ++ r ∷ []) → GateRow g (step-call r) 23 0
   -- 26: a table of the record out of range, or not in agreement with another
-  is-damaged : {x : Call} → ¬ Sound g → GateRow g x 26 0
+  row-26 : {x : Call} → ¬ Sound g → GateRow g x 26 0
 
 -- the first call of the list that is none, or is cut off, stands at the offset; a call is two bytes, 53 r or 57 r
 pub data NoCallAt : List ℕ → ℕ → Type 0 where

@@ -1,4 +1,4 @@
--- The demands of what the functions of this crate return: each makes the public calls and answers their results.
+-- The demands, of what the functions of this crate return: the results of the public calls.
 use Prim.Native.Nat.{ℕ, _*_, _≤_}
 use mathlib.Core.Path.{_≡_}
 use mathlib.Core.List.{List}
@@ -28,13 +28,13 @@ ByBook s r = TurnsAway (BookRow s) (answered-numbers r) (Unit {0})
 
 -- demand 1 of the calls that read a book and change nothing
 pub record BookRefusals (s : List ℕ) (r : BookAnswers) : Type 0 where
-  pub read : ByBook s (r .read)
+  pub read-book : ByBook s (r .«read_book»)
   pub serial : ByBook s (r .serial)
   pub atomic : ByBook s (r .atomic)
   pub relserial : ByBook s (r .relserial)
   pub conflict : ByBook s (r .conflict)
-  pub order : ByBook s (r .order)
-  pub cycle : ByBook s (r .cycle)
+  pub check-order : ByBook s (r .«check_order»)
+  pub check-cycle : ByBook s (r .«check_cycle»)
   pub arc : ByBook s (r .arc)
   pub opened : TurnsAway (BookRow s) (opened-numbers (r .opened)) (WithoutRuns (r .opened .gate))
 
@@ -49,16 +49,13 @@ pub record ReplayRefusals (s calls answers answers′ : List ℕ) (r : Answered)
   pub replayed : TurnsAway (ReplayRow s calls answers) (answered-numbers r) (answers′ ≡ answers)
 
 pub record TextRefusals (s text text′ : List ℕ) (n : ℕ) : Type 0 where
-  pub refused : (m place : ℕ) → BookRow s m place → Put (text-of (refused-at m place)) text text′ n
-  pub accepted : NoRow s → (w : Findings) × Put (text-of (accepted-with w)) text text′ n
+  pub refused-text : (m place : ℕ) → BookRow s m place → Put (text-of (refused-at m place)) text text′ n
+  pub accepted-text : NoRow s → (w : Findings) × Put (text-of (accepted-with w)) text text′ n
 
 -- of step and withdraw for C on any record
-pub record CallRefusals (g : Gate) (x : Call) (r : DeckCalled) : Type 0 where
-  pub call : TurnsAway (GateRow g x) (answered-numbers (r .answer)) (r .gate ≡ g)
-
 pub record GateRefusals (g : Gate) (run : ℕ) (r : GateAnswers) : Type 0 where
-  pub stepped : CallRefusals g (step run) (r .stepped)
-  pub withdrawn : CallRefusals g (withdraw run) (r .withdrawn)
+  pub stepped : TurnsAway (GateRow g (step run)) (answered-numbers (r .stepped .answer)) (r .stepped .gate ≡ g)
+  pub withdrawn : TurnsAway (GateRow g (withdraw run)) (answered-numbers (r .withdrawn .answer)) (r .withdrawn .gate ≡ g)
 
 -- demand 2 of a judgement, where the book is accepted and the buffers are as long as the judge asks
 pub record Demand2Of (s order order′ cycle cycle′ : List ℕ) (r : Judgement) : Type 0 where

@@ -1,5 +1,5 @@
-// The demands as contracts: each function here makes the public calls and ensures the demand of what they return. The demands are stated in specs/; that
-// they hold of whatever meets the calls' contracts is proved in proofs/.
+// The demands as contracts: `demand_1`, `demand_2` and `demand_3` make the public calls and ensure the demand of what they return. `claims` states the demands
+// and proves them of whatever meets the calls' contracts.
 use capi::Answered;
 use capi::Judged;
 use capi::OpenedGate;
@@ -12,13 +12,13 @@ ghost use Rattle.demands.specs.Results.{BookRefusals, JudgeRefusals, Wri
 
 // What the calls that read a book and change nothing return.
 pub struct BookAnswers {
-    pub read: Answered,
+    pub read_book: Answered,
     pub serial: Answered,
     pub atomic: Answered,
     pub relserial: Answered,
     pub conflict: Answered,
-    pub order: Answered,
-    pub cycle: Answered,
+    pub check_order: Answered,
+    pub check_cycle: Answered,
     pub arc: Answered,
     pub opened: OpenedGate,
 }
@@ -42,26 +42,27 @@ pub struct GateAnswers {
     pub withdrawn: DeckCalled,
 }
 
+// The calls that read a book and change nothing.
 fn book_answers<'a>(s: &'a [u8], list: &'a [u8], from: usize, to: usize) -> BookAnswers
     ensures { λ r. ⌜ BookRefusals (now (s .entry)) r ⌝ }
 {
-    let read = capi::deck_read(s);
+    let read_book = capi::deck_read(s);
     let serial = capi::deck_serial(s);
     let atomic = capi::deck_atomic(s);
     let relserial = capi::deck_relserial(s);
     let conflict = capi::deck_conflict(s);
-    let order = capi::deck_check_order(s, list);
-    let cycle = capi::deck_check_cycle(s, list);
+    let check_order = capi::deck_check_order(s, list);
+    let check_cycle = capi::deck_check_cycle(s, list);
     let arc = capi::deck_arc(s, from, to);
     let opened = capi::deck_open(s);
     BookAnswers {
-        read,
+        read_book,
         serial,
         atomic,
         relserial,
         conflict,
-        order,
-        cycle,
+        check_order,
+        check_cycle,
         arc,
         opened,
     }
@@ -85,6 +86,7 @@ fn after_deck_withdraw(g: Gate, run: u8) -> DeckCalled
     DeckCalled { answer, gate: h }
 }
 
+// The calls on a gate's record, each on the same record.
 fn gate_answers(g: Gate, run: u8) -> GateAnswers
     ensures { λ r. ⌜ GateRefusals g run r ⌝ }
 {
@@ -93,6 +95,7 @@ fn gate_answers(g: Gate, run: u8) -> GateAnswers
     GateAnswers { stepped, withdrawn }
 }
 
+// The calls that are lent a buffer.
 fn buffer_answers<'a>(
     s: &'a [u8],
     calls: &'a [u8],
@@ -115,6 +118,7 @@ fn buffer_answers<'a>(
     }
 }
 
+// The program's text.
 fn text_answer(s: &[u8], text: &mut [u8; report::TEXT]) -> usize
     ensures { λ r. ⌜ TextRefusals (now (s .entry)) (now (text .entry)) (now (text .exit)) r ⌝ }
 {
@@ -126,7 +130,7 @@ pub struct AllAnswers {
     pub of_book: BookAnswers,
     pub of_buffers: BufferAnswers,
     pub of_gate: GateAnswers,
-    pub text: usize,
+    pub text_length: usize,
 }
 
 // Demand 1 of every call: on a book's bytes, a list for the two checks, two places, a list of calls, buffers, and a gate's record.
@@ -148,17 +152,17 @@ pub fn demand_1<'a>(
     ensures { λ r. ⌜ JudgeRefusals (now (s .entry)) (now (order .entry)) (now (order .exit)) (now (cycle .entry)) (now (cycle .exit)) (r .«of_buffers» .judged) ⌝ }
     ensures { λ r. ⌜ WriteRefusals (now (s .entry)) (now (out .entry)) (now (out .exit)) (r .«of_buffers» .written) ⌝ }
     ensures { λ r. ⌜ ReplayRefusals (now (s .entry)) (now (calls .entry)) (now (answers .entry)) (now (answers .exit)) (r .«of_buffers» .replayed) ⌝ }
-    ensures { λ r. ⌜ TextRefusals (now (s .entry)) (now (text .entry)) (now (text .exit)) (r .text) × GateRefusals g run (r .«of_gate») ⌝ }
+    ensures { λ r. ⌜ TextRefusals (now (s .entry)) (now (text .entry)) (now (text .exit)) (r .«text_length») × GateRefusals g run (r .«of_gate») ⌝ }
 {
     let of_book = book_answers(s, list, from, to);
     let of_buffers = buffer_answers(s, calls, order, cycle, out, answers);
-    let text = text_answer(s, text);
+    let text_length = text_answer(s, text);
     let of_gate = gate_answers(g, run);
     AllAnswers {
         of_book,
         of_buffers,
         of_gate,
-        text,
+        text_length,
     }
 }
 

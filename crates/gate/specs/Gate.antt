@@ -33,7 +33,7 @@ book-of g = with-history (contents-of (g .book)) []
 abbrev pub state-of : Gate → State
 state-of g = record { kept = contents-of (g .book) .history; withdrawn = flagged 0 (g .withdrawn) }
 
--- the tables have their ranges and agree with each other; so it is of every record that opening and the calls return
+-- the tables have their ranges and agree with each other; so it is of every record that opening hands back, and that a call leaves of such a one
 pub record Sound (g : Gate) : Type 0 where
   pub valid : Valid (g .book)
   pub flags : Flags run-limit (g .withdrawn)

@@ -237,7 +237,7 @@ pub fn judge(s: &[u8], order: &mut [u8], cycle: &mut [u8]) -> Judgement
 }
 
 // The filled part of the buffer that the verdict used: its first bytes, as many as the count; an empty part if it is shorter or the judge refused. The
-// part lies in that buffer itself, and begins where it does.
+// part lies in that buffer itself, and begins where it does; where the judge refused, in the order buffer.
 pub fn front<'a>(order: &'a [u8], cycle: &'a [u8], verdict: Verdict, count: usize) -> &'a [u8]
     ensures { λ r. ⌜ now r ≡ front-of verdict count (now (order .entry)) (now (cycle .entry)) ⌝ }
     ensures { λ r. ⌜ r .ptr ≡ front-at verdict (order .entry .ptr) (cycle .entry .ptr) ⌝ }

@@ -76,8 +76,8 @@ count-above l n r zero f g = refl
 count-above l n r (suc k) f g = count-take-ne l r k (λ e. omega (arith, f k)) ∙ count-above l n r k f g
 
 module _ (ls ns h : List ℕ) (k : ℕ) where
-  pub history-long : step-limit < k → Answers (HistoryWithin ls ns h k) false
-  history-long l = answer-no (λ v. omega (arith, v .few))
+  pub history-too-long : step-limit < k → Answers (HistoryWithin ls ns h k) false
+  history-too-long l = answer-no (λ v. omega (arith, v .few))
 
   module _ (long : length ns ≡ run-limit) (c : Column step-limit run-limit k h) (v : CountsValid ls ns h k run-limit) where
     counts-are : (r : ℕ) → Dec (run-limit ≤ r) → getD ns r 0 ≡ count (take k h) r

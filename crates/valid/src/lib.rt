@@ -49,7 +49,7 @@ fn flags_in(s: &[u8]) -> bool
     largest(s, 0) <= 1
 }
 
-// Whether each is 0 or 1.
+// The same, of a table by value.
 pub fn are_flags(l: [u8; Book::RUNS]) -> bool
     ensures { λ r. ⌜ Answers (Flags run-limit l) r ⌝ }
 {

@@ -33,13 +33,13 @@ deck-open-requires c κs = search needs
 
 returns : tie.Need-returns
 returns c = record {
-  read = demand-1 .deck-read _ _ (c .before .before .before .before .before .before .before .before .deck-read .ensures);
+  read-book = demand-1 .deck-read _ _ (c .before .before .before .before .before .before .before .before .deck-read .ensures);
   serial = demand-1 .deck-test _ _ _ (c .before .before .before .before .before .before .before .deck-serial .ensures);
   atomic = demand-1 .deck-test _ _ _ (c .before .before .before .before .before .before .deck-atomic .ensures);
   relserial = demand-1 .deck-test _ _ _ (c .before .before .before .before .before .deck-relserial .ensures);
   conflict = demand-1 .deck-test _ _ _ (c .before .before .before .before .deck-conflict .ensures);
-  order = demand-1 .deck-test _ _ _ (c .before .before .before .deck-check-order .ensures);
-  cycle = demand-1 .deck-test _ _ _ (c .before .before .deck-check-cycle .ensures);
+  check-order = demand-1 .deck-test _ _ _ (c .before .before .before .deck-check-order .ensures);
+  check-cycle = demand-1 .deck-test _ _ _ (c .before .before .deck-check-cycle .ensures);
   arc = demand-1 .deck-test _ _ _ (c .before .deck-arc .ensures);
   opened = demand-1 .deck-open _ _ (c .deck-open .ensures);
 }

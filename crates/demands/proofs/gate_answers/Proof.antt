@@ -12,8 +12,8 @@ after-deck-withdraw-requires c κs = search needs
 
 returns : tie.Need-returns
 returns c = record {
-  stepped = record { call = demand-1 .deck-call _ _ _ _ (c .before .after-deck-step .ensures) };
-  withdrawn = record { call = demand-1 .deck-call _ _ _ _ (c .after-deck-withdraw .ensures) };
+  stepped = demand-1 .deck-call _ _ _ _ (c .before .after-deck-step .ensures);
+  withdrawn = demand-1 .deck-call _ _ _ _ (c .after-deck-withdraw .ensures);
 }
 
 pub gate-answers-spec : {M : Type 1} → statement M

@@ -9,8 +9,8 @@ report-requires c κs = search needs
 
 returns : tie.Need-returns
 returns c = record {
-  refused = demand-1 .report-refused _ _ _ _ (c .report .ensures);
-  accepted = demand-1 .report-accepted _ _ _ _ (c .report .ensures);
+  refused-text = demand-1 .report-refused _ _ _ _ (c .report .ensures);
+  accepted-text = demand-1 .report-accepted _ _ _ _ (c .report .ensures);
 }
 
 pub text-answer-spec : {M : Type 1} → statement M

@@ -1,11 +1,11 @@
 -- `history_valid` is right: it tests each part of `HistoryValid`, and no run above the limit stands in the history.
 use borrow.Author.Needs.{needs}
-use Rattle.valid.proofs.Testing.{history-long, history-answer}
+use Rattle.valid.proofs.Testing.{history-too-long, history-answer}
 use Rattle.valid.proofs.history_valid.Statement.{statement}
 use Rattle.valid.proofs.history_valid.Tie as tie
 
 returns : tie.Need-returns
-returns c = search history-long
+returns c = search history-too-long
 
 cast-is-column : tie.Need-cast-is-column
 cast-is-column c = search needs
