@@ -83,6 +83,9 @@ macro_rules! causes {
             $(#[doc = $text] $cause = $number,)*
         }
 
+        #[cfg(test)]
+        const CAUSES: &[Cause] = &[$(Cause::$cause),*];
+
         fn cause_of(number: u64) -> Cause {
             match number {
                 $($number => Cause::$cause,)*
@@ -108,7 +111,7 @@ causes! {
     WrongKind = 5, "kind above 15, or a above b";
     NotRising = 6, "pair or triple not above the one before";
     WrongRun = 7, "52 not the next run; 42 or 48 a run not declared; 42 a run as seen by itself";
-    TooMany = 8, "17th run, 33rd step of a run, 129th step";
+    TooManyRuns = 8, "17th run";
     WrongCut = 9, "cut after step 0, or not before the last step";
     NoStepLeft = 10, "48 for a run with no step left";
     BytesAfterEnd = 11, "bytes after 45";
@@ -121,6 +124,8 @@ causes! {
     NoCall = 24, "replay: no call, or a cut-off one, at an offset of the list";
     AnswersShort = 25, "replay: the buffer of answers under two bytes a call";
     Damaged = 26, "gate: a table of the record out of range, or not in agreement with another";
+    RunTooLong = 30, "33rd step of a run";
+    TooManySteps = 31, "129th step of the book";
 }
 
 /// What was turned away: why, and the offset at which it was found (0 where it has none).
@@ -320,11 +325,15 @@ mod tests {
         for (name, limit) in [("BOOK", BOOK), ("KINDS", KINDS), ("RUNS", RUNS), ("RUN_STEPS", RUN_STEPS), ("STEPS", STEPS)] {
             has(&format!("DECK_{}", name), limit as u64);
         }
-        for number in (1..=13).chain(20..=26) {
-            let cause = format!("{:?}", cause_of(number));
-            let name = cause.chars().map(|c| if c.is_uppercase() { format!("_{}", c) } else { c.to_uppercase().collect() });
+        for &cause in CAUSES {
+            let number = cause as u64;
+            assert_eq!(cause_of(number), cause);
+            let letters = format!("{:?}", cause);
+            let name = letters.chars().map(|c| if c.is_uppercase() { format!("_{}", c) } else { c.to_uppercase().collect() });
             has(&name.collect::<String>(), number);
         }
+        let numbers = header.split("enum deck_number {").nth(1).unwrap().split('}').next().unwrap();
+        assert_eq!(numbers.matches(" = ").count(), CAUSES.len());
     }
 
     #[test]
@@ -377,6 +386,16 @@ mod tests {
         assert_eq!(read(&[0; BOOK + 1]), Err(Refusal { cause: Cause::BookTooLong, place: 0 }));
         assert_eq!(serial(&[0x52]), Err(Refusal { cause: Cause::EndsEarly, place: 0 }));
         assert_eq!(read(&[0x45, 0x45]).unwrap_err().to_string(), "refused 11 at 1: bytes after 45");
+    }
+
+    #[test]
+    fn a_refusal_says_which_limit_a_long_book_broke() {
+        assert_eq!(read(&book("refused08")), Err(Refusal { cause: Cause::TooManyRuns, place: 32 }));
+        assert_eq!(read(&book("refused30")), Err(Refusal { cause: Cause::RunTooLong, place: 130 }));
+        assert_eq!(read(&book("refused31")), Err(Refusal { cause: Cause::TooManySteps, place: 522 }));
+        assert_eq!(judge(&book("refused30-both")).unwrap_err().to_string(), "refused 30 at 520: 33rd step of a run");
+        assert_eq!(read(&book("longest-run")), Ok(32));
+        assert_eq!(read(&book("longest-runs")), Ok(128));
     }
 
     #[test]

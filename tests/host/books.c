@@ -93,16 +93,18 @@ size_t make_book(source *s, const shape *f, uint8_t *out) {
 
 size_t make_long_book(source *s, uint8_t *out) {
     const unsigned full = DECK_STEPS / DECK_RUN_STEPS; /* so many of the longest runs have all steps */
-    unsigned fault = below(s, 4), runs = fault == 0 ? DECK_RUNS + 1 : fault == 1 ? 1 + below(s, full - 1) : full + 1;
+    const enum { RUN, RUN_STEP, STEP, BOTH, BYTE } over = below(s, 5);
+    unsigned runs = over == RUN ? DECK_RUNS + 1 : over == RUN_STEP ? 1 + below(s, full - 1) : over == STEP ? full + 1 : full;
     uint8_t *o = out;
-    if (fault == 3) {
+    if (over == BYTE) {
         size_t len = DECK_BOOK + 1 + below(s, 1000);
         memset(out, 0x45, len);
         return len;
     }
     for (unsigned r = 0; r < runs; r++) {
-        unsigned most = DECK_RUN_STEPS, last = r + 1 == runs;
-        unsigned steps = fault == 0 ? below(s, 8) : fault == 1 ? (last ? most + 1 : below(s, most + 1)) : last ? 1 : most;
+        unsigned steps = over == RUN ? below(s, 8) : over == RUN_STEP ? below(s, DECK_RUN_STEPS + 1) : DECK_RUN_STEPS;
+        if (r + 1 == runs && over != RUN)
+            steps = over == STEP ? 1 : DECK_RUN_STEPS + 1;
         *o++ = 0x52;
         *o++ = (uint8_t)r;
         o = put_steps(s, steps, DECK_KINDS, UINT16_MAX + 1, o);

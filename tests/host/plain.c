@@ -42,7 +42,7 @@ static int read_run(const uint8_t *c, plain_book *b, progress *p) {
     if (c[1] != b->runs)
         return DECK_WRONG_RUN;
     if (b->runs == DECK_RUNS)
-        return DECK_TOO_MANY;
+        return DECK_TOO_MANY_RUNS;
     p->group = 1;
     b->runs++;
     return 0;
@@ -54,8 +54,10 @@ static int read_step(const uint8_t *c, plain_book *b, progress *p) {
         return DECK_OUT_OF_ORDER;
     if (c[1] >= DECK_KINDS)
         return DECK_WRONG_KIND;
-    if (b->length[r] == DECK_RUN_STEPS || b->steps == DECK_STEPS)
-        return DECK_TOO_MANY;
+    if (b->length[r] == DECK_RUN_STEPS)
+        return DECK_RUN_TOO_LONG;
+    if (b->steps == DECK_STEPS)
+        return DECK_TOO_MANY_STEPS;
     p->group = 1;
     b->kind[r][b->length[r]] = c[1];
     b->position[r][b->length[r]] = (uint16_t)(c[2] << 8 | c[3]);

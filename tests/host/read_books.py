@@ -1,14 +1,17 @@
 #!/usr/bin/env python3
-"""Writes the files stdin and stdout of crates/read_books: books on both sides of every limit and for every refusal, and what document 01 says of each.
+"""Writes the files stdin and stdout of crates/read_books: books on both sides of every limit and for every refusal, and what the documents say of each.
 
     tests/host/read_books.py FOLDER     to FOLDER/stdin and FOLDER/stdout
 
-`outcome` is document 01's reader once more, written from its text alone: the tests that each command fails, and their order.
+`outcome` is the documents' reader once more, written from their text alone: the tests that each command fails, and their order.
 """
 import sys
 
 # Document 01, "Deck book": each command's group and its number of operands.
 COMMANDS = {0x43: (0, 2), 0x52: (1, 1), 0x53: (1, 3), 0x42: (2, 3), 0x48: (3, 1), 0x45: (4, 0)}
+
+# The order of a command's tests behind 2 and 3: document 01's, with document 02's 30 and 31 where 8 was tested.
+ORDER = (4, 5, 7, 8, 30, 31, 9, 6, 10)
 
 
 def faults(command, operands, pairs, runs, cuts, history):
@@ -19,7 +22,7 @@ def faults(command, operands, pairs, runs, cuts, history):
     if command == 0x52:
         return {7: operands[0] != len(runs), 8: len(runs) == 16}
     if command == 0x53:
-        return {4: not runs, 5: operands[0] > 15, 8: runs and len(runs[-1]) == 32 or sum(map(len, runs)) == 128}
+        return {4: not runs, 5: operands[0] > 15, 30: runs and len(runs[-1]) == 32, 31: sum(map(len, runs)) == 128}
     r = operands[0]
     if command == 0x42:
         j, o = operands[1:]
@@ -44,7 +47,7 @@ def outcome(s):
             return f"accepted, done {len(history)}" if at + 1 == len(s) else f"refused 11 at {at + 1}"
         failed = faults(command, operands, pairs, runs, cuts, history)
         failed[4] = failed.get(4) or own_group < group
-        for number in (4, 5, 7, 8, 9, 6, 10):
+        for number in ORDER:
             if failed.get(number):
                 return f"refused {number} at {at}"
         if command == 0x43:
@@ -132,9 +135,11 @@ BOOKS = [
     # 8
     ("16 runs", runs_of(*[0] * 16) + END),
     ("17th run", runs_of(*[0] * 17) + END),
+    # 30
     ("32 steps in a run", runs_of(32) + END),
     ("33rd step of a run", runs_of(33) + END),
     ("33rd step of a second run", runs_of(1, 33) + END),
+    # 31
     ("128 steps", runs_of(32, 32, 32, 32) + END),
     ("129th step", runs_of(32, 32, 32, 32, 1) + END),
     ("128 steps in 16 runs", runs_of(*[8] * 16) + END),
@@ -166,8 +171,9 @@ LATE = [("43", 0, pair(0, 2)), ("52", 1, run(2)), ("53", 1, step()), ("42", 2, c
 BOOKS += [(f"{name} after {NAMES[g]}", b"".join(GROUPS[: g + 1]) + command + END) for name, own, command in LATE for g in range(own + 1, 4)]
 BOOKS += [("53 before any 52", step() + END), ("53 before any 52, after 43", pair(0, 1) + step() + END)]
 
-# Two faults at once: the earlier test of 2, 3, 4, 5, 7, 8, 9, 6, 10 answers.
-FULL = runs_of(*[0] * 16)
+# Two faults at once: the earlier test answers.
+FULL_RUNS = runs_of(*[0] * 16)
+FULL_STEPS = runs_of(*[8] * 16)
 BOOKS += [
     ("43, 3 and 4", run(0) + pair(0, 1)[:2]),
     ("43, 3 and 5", pair(16, 16)[:2]),
@@ -177,13 +183,18 @@ BOOKS += [
     ("52, 3 and 4", TWO + cut(0, 1, 1) + run(2)[:1]),
     ("52, 4 and 7", TWO + cut(0, 1, 1) + run(5) + END),
     ("52, 4 and 8", runs_of(*[2] * 16) + cut(0, 1, 1) + run(16) + END),
-    ("52, 7 and 8", FULL + run(0) + END),
+    ("52, 7 and 8", FULL_RUNS + run(0) + END),
     ("53, 3 and 4", step()[:3]),
     ("53, 3 and 5", run(0) + step(16)[:3]),
     ("53, 4 and 5", step(16) + END),
-    ("53, 4 and 8", runs_of(2, 32) + cut(0, 1, 1) + step() + END),
-    ("53, 5 and 8", runs_of(32) + step(16) + END),
-    ("53, 33rd and 129th step at once", runs_of(32, 32, 32, 32) + step() + END),
+    ("53, 3 and 30", runs_of(32) + step()[:3]),
+    ("53, 3 and 31", FULL_STEPS + step()[:3]),
+    ("53, 4 and 30", runs_of(2, 32) + cut(0, 1, 1) + step() + END),
+    ("53, 4 and 31", FULL_STEPS + cut(0, 1, 1) + step() + END),
+    ("53, 5 and 30", runs_of(32) + step(16) + END),
+    ("53, 5 and 31", FULL_STEPS + step(16) + END),
+    ("53, 30 and 31", runs_of(32, 32, 32, 32) + step() + END),
+    ("53, 4, 5, 30 and 31", runs_of(32, 32, 32, 32) + cut(0, 1, 1) + step(16) + END),
     ("42, 3 and 4", TWO + done(0) + cut(0, 1, 1)[:3]),
     ("42, 3 and 7", TWO + cut(2, 1, 0)[:3]),
     ("42, 4 and 7", TWO + done(0) + cut(2, 1, 0) + END),

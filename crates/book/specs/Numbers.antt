@@ -1,5 +1,6 @@
--- Document 01's number for each cause of refusal ("When something is turned away"), and an answer in numbers.
+-- The number of each cause of refusal (document 01, "When something is turned away", with document 02's requests), and an answer in numbers.
 use Prim.Native.Nat.{ℕ}
+use mathlib.Core.Path.{_≡_}
 use lib.ListN.{length}
 use Rattle.book.specs.Format.{Outcome, refused, accepted}
 use Rattle.book.specs.declared.Cause.{Cause}
@@ -14,8 +15,8 @@ number WrongKind = 5
 number NotRising = 6
 number WrongRun = 7
 number TooManyRuns = 8
-number RunTooLong = 8
-number TooManySteps = 8
+number RunTooLong = 30
+number TooManySteps = 31
 number WrongCut = 9
 number NoStepLeft = 10
 number BytesAfterEnd = 11
@@ -28,6 +29,10 @@ number Tangled = 23
 number NoCall = 24
 number AnswersShort = 25
 number Damaged = 26
+
+-- each cause has a number of its own
+abbrev pub OwnNumbers : Type 0
+OwnNumbers = (cause cause′ : Cause) → number cause ≡ number cause′ → cause ≡ cause′
 
 -- an answer in numbers: the number of a refusal or 0, its place or 0, and what the call answers or 0
 pub record Numbers : Type 0 where

@@ -1,21 +1,25 @@
--- Document 01's order of tests: "Commands are read in turn, each tested for 2, 3, 4, 5, 7, 8, 9, 6, 10; then 11". The tests of 2 and 11 stand in
--- `command-at` and `end-at`; those of a command, 3 to 10, are its `command-tests`.
+-- The order of a book's tests. Document 01: "Commands are read in turn, each tested for 2, 3, 4, 5, 7, 8, 9, 6, 10; then 11". Document 02: 30, then 31,
+-- both where 8 was tested. The tests of 2 and 11 stand in `command-at` and `end-at`; those of a command, from 3 on, are its `command-tests`.
 use Prim.Native.Nat.{ℕ, suc, _≤_}
-use mathlib.Core.List.{List, [], _∷_}
+use mathlib.Core.List.{List, [], _∷_, _++_}
 use lib.Dec.{eqb}
 use Rattle.book.specs.Format.{pick, Command, Test, ReadState, command-tests}
 use Rattle.book.specs.Numbers.{number}
 use Rattle.book.specs.declared.Rules.{Rules}
 
 abbrev pub test-order : List ℕ
-test-order = 2 ∷ 3 ∷ 4 ∷ 5 ∷ 7 ∷ 8 ∷ 9 ∷ 6 ∷ 10 ∷ []
+test-order = 2 ∷ 3 ∷ 4 ∷ 5 ∷ 7 ∷ 8 ∷ 30 ∷ 31 ∷ 9 ∷ 6 ∷ 10 ∷ []
+
+-- the numbers of a book's refusals: document 01's "1 to 11", and each later check of the reader
+abbrev pub book-numbers : List ℕ
+book-numbers = 1 ∷ test-order ++ 11 ∷ []
 
 -- where a number stands in a list
 abbrev pub index-of : ℕ → List ℕ → ℕ
 index-of n [] = 0
-index-of n (m ∷ ms) = pick (eqb n m) 0 (suc (index-of n ms))
+index-of n (m ∷ ms) = pick (eqb m n) 0 (suc (index-of n ms))
 
--- none of these tests comes before one that document 01 has earlier
+-- none of these tests comes before one that the order has earlier
 abbrev pub InOrder : List Test → Type 0
 InOrder [] = Unit {0}
 InOrder (t ∷ []) = Unit {0}

@@ -5,8 +5,8 @@ ghost use Rattle.book.specs.Numbers.{number};
 ghost use Rattle.book.specs.Format.{kind-limit, position-limit, run-limit, run-step-limit, step-limit, length-limit, with-history, Allowed};
 ghost use Rattle.book.specs.Book.{code-limit, step-coded, as-step, contents-of, empty-book, Valid, Represents};
 
-// Why something is turned away: one for each row of document 01's table, three for the limits of runs and steps, two of the replay's own, and one for a
-// gate's record that is not sound.
+// Why something is turned away: one for each row of document 01's table, with document 02's, two of the replay's own, and one for a gate's record that
+// is not sound.
 pub enum Cause {
     // A book over the length limit.
     BookTooLong,
@@ -26,7 +26,7 @@ pub enum Cause {
     TooManyRuns,
     // A 33rd step of a run.
     RunTooLong,
-    // A 129th step.
+    // A 129th step of the book.
     TooManySteps,
     // In 42, j is 0 or not below the steps of r.
     WrongCut,
@@ -54,7 +54,7 @@ pub enum Cause {
     Damaged,
 }
 
-// Document 01's number for a cause.
+// The number of a cause.
 pub fn number_of(cause: Cause) -> u8
     ensures { λ r. ⌜ r ≡ number cause ⌝ }
 {
@@ -67,8 +67,8 @@ pub fn number_of(cause: Cause) -> u8
         Cause::NotRising => 6,
         Cause::WrongRun => 7,
         Cause::TooManyRuns => 8,
-        Cause::RunTooLong => 8,
-        Cause::TooManySteps => 8,
+        Cause::RunTooLong => 30,
+        Cause::TooManySteps => 31,
         Cause::WrongCut => 9,
         Cause::NoStepLeft => 10,
         Cause::BytesAfterEnd => 11,

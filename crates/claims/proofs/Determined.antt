@@ -1,12 +1,12 @@
 -- Each public call's contract has one result, the judge's choice of a cycle apart.
-use Prim.Native.Nat.{ℕ, _-_, _≤_, _<_}
+use Prim.Native.Nat.{ℕ, _≤_, _<_}
 use native.Mathlib.Decide.{decLt}
 use native.Mathlib.Omega.{arith}
 use mathlib.Core.Path.{_≡_, refl, ap, sym, _∙_}
 use mathlib.Core.Logic.{_⊎_, inl, inr, _≢_}
 use mathlib.Core.Bool.{Bool, true, false}
-use mathlib.Core.List.{List, [], _∷_}
-use lib.ListN.{length, getD, drop}
+use mathlib.Core.List.{List, []}
+use lib.ListN.{length, drop}
 use lib.Seq.{drop-append-seam}
 use Rattle.theory.specs.Relative.{RelativelySerialOrder, RelativelySerializable}
 use Rattle.theory.specs.Graph.{Greedy}
@@ -14,14 +14,14 @@ use Rattle.theory.specs.Rows.{Is}
 use Rattle.theory.proofs.Places.{order-length}
 use Rattle.theory.proofs.Greedy.{greedy-unique}
 use Rattle.book.specs.Format.{Contents, Outcome, refused, accepted, step-limit, read}
-use Rattle.book.specs.Numbers.{number, value-of}
 use Rattle.book.specs.Meaning.{conflict-of, unit-of}
 use Rattle.book.specs.Book.{Valid, outcome-by, ReadAs}
 use Rattle.book.specs.declared.Cause.{Cause}
-use Rattle.book.specs.declared.Cause.the-variants.{BookTooLong, NoCommand, EndsEarly, OutOfOrder, WrongKind, NotRising, WrongRun, TooManyRuns, RunTooLong, TooManySteps, WrongCut, NoStepLeft, BytesAfterEnd, JudgeBufferShort, WriterBufferShort, NotDeclared, Withdrawn as RunWithdrawn, AllKept, Tangled as StepTangled, NoCall, AnswersShort, Damaged}
+use Rattle.book.specs.declared.Cause.the-variants.{JudgeBufferShort}
 use Rattle.book.specs.declared.Book.{Book}
 use Rattle.book.specs.declared.Answer.{Answer as BookAnswer}
 use Rattle.book.specs.declared.Answer.the-variants.{Refused as NotRead, Accepted}
+use Rattle.book.proofs.Numbers.{cause-of, cause-back}
 use Rattle.book.proofs.Determined.{determined}
 use Rattle.judge.specs.Judged.{verdict-numbers, JudgedAs}
 use Rattle.judge.specs.Judge.{RefusedAs, OutcomeJudged, BytesJudged}
@@ -33,7 +33,7 @@ use Rattle.classes.specs.declared.Tested.{Tested}
 use Rattle.classes.specs.declared.Tested.the-variants.{Yes, No, Refused as NotTested}
 use Rattle.writer.specs.Written.{written-numbers}
 use Rattle.writer.specs.declared.Written.{Written}
-use Rattle.gate.specs.Plain.{Call, Answer, place, withdrawn, refused as refused-by, State, Refusal, not-declared, was-withdrawn, all-kept, PlainCall, step-refused, step-tangled, step-kept, withdraw-refused, withdraws}
+use Rattle.gate.specs.Plain.{Call, Answer, place, withdrawn, refused as refused-by}
 use Rattle.gate.specs.Gate.{answer-of, reply-numbers, opening-numbers, book-of, state-of, OpenedAs, CalledAs, on-sound, on-damaged}
 use Rattle.gate.specs.Replay.{played-numbers, played-by, Replays}
 use Rattle.gate.specs.declared.Gate.{Gate}
@@ -155,68 +155,21 @@ one-test P (accepted c) r r′ w w′ = one-answer (P c) r r′ w w′
 
 -- ---- step and withdraw
 
--- the causes from number 20 on, which have a number each
-late-causes : List Cause
-late-causes = NotDeclared ∷ RunWithdrawn ∷ AllKept ∷ StepTangled ∷ NoCall ∷ AnswersShort ∷ Damaged ∷ []
-
-late-cause : (cause : Cause) → 20 ≤ number cause → getD late-causes (number cause - 20) Damaged ≡ cause
-unfolding late-causes
-late-cause BookTooLong h = absurd (omega arith)
-late-cause NoCommand h = absurd (omega arith)
-late-cause EndsEarly h = absurd (omega arith)
-late-cause OutOfOrder h = absurd (omega arith)
-late-cause WrongKind h = absurd (omega arith)
-late-cause NotRising h = absurd (omega arith)
-late-cause WrongRun h = absurd (omega arith)
-late-cause TooManyRuns h = absurd (omega arith)
-late-cause RunTooLong h = absurd (omega arith)
-late-cause TooManySteps h = absurd (omega arith)
-late-cause WrongCut h = absurd (omega arith)
-late-cause NoStepLeft h = absurd (omega arith)
-late-cause BytesAfterEnd h = absurd (omega arith)
-late-cause JudgeBufferShort h = absurd (omega arith)
-late-cause WriterBufferShort h = absurd (omega arith)
-late-cause NotDeclared h = refl
-late-cause RunWithdrawn h = refl
-late-cause AllKept h = refl
-late-cause StepTangled h = refl
-late-cause NoCall h = refl
-late-cause AnswersShort h = refl
-late-cause Damaged h = refl
-
--- a refusal's number is 20 or more
-abbrev Late : Answer → Type 0
-Late (place p) = Unit {0}
-Late withdrawn = Unit {0}
-Late (refused-by n) = 20 ≤ n
-
-late-refusal : {c : Contents} {g : State} {r : ℕ} {cause : Cause} → Refusal c g r cause → 20 ≤ number cause
-late-refusal (not-declared h) = omega arith
-late-refusal (was-withdrawn h w) = omega arith
-late-refusal (all-kept h n l) = omega arith
-
-late : {c : Contents} {g h : State} {x : Call} {a : Answer} → PlainCall c g x a h → Late a
-late (step-refused p) = late-refusal p
-late (step-tangled e t) = omega arith
-late (step-kept e t) = tt
-late (withdraw-refused p) = late-refusal p
-late (withdraws e) = tt
-
 -- the reply of an answer
 abbrev reply-of : Answer → Reply
 reply-of (place p) = Place p
 reply-of withdrawn = Withdrawn
-reply-of (refused-by n) = CallRefused (getD late-causes (n - 20) Damaged)
+reply-of (refused-by n) = CallRefused (cause-of n)
 
-reply-back : (a : Reply) → Late (answer-of a) → reply-of (answer-of a) ≡ a
-reply-back (Place p) l = refl
-reply-back Withdrawn l = refl
-reply-back (CallRefused cause) l = ap CallRefused (late-cause cause l)
+reply-back : (a : Reply) → reply-of (answer-of a) ≡ a
+reply-back (Place p) = refl
+reply-back Withdrawn = refl
+reply-back (CallRefused cause) = ap CallRefused (cause-back cause)
 
 one-call : (g : Gate) (x : Call) → AtMostOnePair (CalledAs g x)
 one-call g x a a′ h h′ (on-sound y w) (on-sound y′ w′) =
     let e = single (book-of g) (state-of g) (w .plain) (w′ .plain) in (
-      sym (reply-back a (late (w .plain))) ∙ ap reply-of (e .answers) ∙ reply-back a′ (late (w′ .plain)),
+      sym (reply-back a) ∙ ap reply-of (e .answers) ∙ reply-back a′,
       same-record h h′ (w .sound) (w′ .sound) (w .book ∙ sym (w′ .book)) (e .states),
     )
 one-call g x a a′ h h′ (on-sound y w) (on-damaged n e f) = absurd (n y)

@@ -45,7 +45,7 @@ use Rattle.report.specs.Text.{Findings, Report, refused-at, accepted-with, text
 use Rattle.report.specs.Reporting.{ReportOn, Reports}
 use Rattle.claims.specs.Table.{BookRow, NoRow, JudgeRow, order-under-128, cycle-under-128, judged-book, WriterRow, written-book, shorter-than-the-book, run-called, GateRow, row-20, row-21, row-22, row-23, row-26, NoCallAt, cut-off, not-53-or-57, behind-53, behind-57, ReplayRow, replayed-book, no-call, answers-short}
 use Rattle.claims.specs.Demands.{TurnsAway, BuffersUnchanged, AnswersUnchanged, WithoutRuns, Demand1}
-use Rattle.claims.proofs.Table.{refused-row, row-refused, row-single, accepted-no-row}
+use Rattle.claims.proofs.Table.{refused-row, row-refused, row-numbered, row-single, accepted-no-row}
 
 -- ---- a refusal, and a call that is carried out
 
@@ -393,6 +393,7 @@ report-accepted s text text′ n w none = go (read s) refl (w .report) (w .repor
 pub demand-1 : Demand1
 unfolding Turns
 demand-1 = record {
+  book-refusals = row-numbered;
   read-bytes = read-turns;
   deck-read = λ s r h. rw (h .numbers) (outcome-turns s (Unit {0}) (read s) refl (λ cause at e. tt));
   judge-bytes = judge-turns;

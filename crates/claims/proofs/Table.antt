@@ -1,4 +1,4 @@
--- Document 01's table and the format are the same: each refusal is a row that applies, each row that applies is the refusal, and at most one applies.
+-- The documents' table and the format are the same: each refusal is a row that applies, each row that applies is the refusal, and at most one applies.
 use Prim.Native.Nat.{ℕ, zero, suc, _+_, _-_, _≤_, _<_}
 use native.Mathlib.Nat.{le-refl, le-trans}
 use native.Mathlib.Decide.{decLe, decLt, ℕ-discrete}
@@ -6,19 +6,22 @@ use native.Mathlib.Omega.{arith}
 use mathlib.Core.Path.{_≡_, refl, ap, sym, subst, _∙_}
 use mathlib.Core.Bool.{Bool, true, false, not, true≢false}
 use mathlib.Core.Logic.{_≢_}
-use mathlib.Core.List.{List, [], _∷_}
+use mathlib.Core.List.{List, [], _∷_, _++_}
 use borrow.Author.Tests.{ltb-false, leb-true, leb-false, eqb-true, eqb-false, not-false, lt-ltb, le-ltb, le-leb, lt-leb, eq-eqb, ne-eqb}
 use lib.ListN.{length, getD}
 use lib.Dec.{leb, ltb, eqb}
+use Rattle.theory.specs.History.{suc-if, count}
 use Rattle.theory.specs.Deck.{Pair, Cut}
+use Rattle.theory.proofs.Lists.{count-append}
 use Rattle.book.specs.Format.{Contents, Outcome, refused, accepted, deck-rules, pick, byte, Command, pair, run, step, cut, done, width, above-pair, above-cut, operand-tests, Test, ReadState, Move, on, over, check, checks, command-tests, next-state, obeyed, obey, follow, end-at, command-at, read-from, read-commands, read-by, read, start}
-use Rattle.book.specs.TestOrder.{test-order, index-of, InOrder}
+use Rattle.book.specs.TestOrder.{test-order, book-numbers, index-of, InOrder}
 use Rattle.book.specs.Numbers.{number}
 use Rattle.book.specs.declared.Cause.{Cause}
 use Rattle.book.specs.declared.Cause.the-variants.{BookTooLong, NoCommand, EndsEarly, BytesAfterEnd}
 use Rattle.book.proofs.Ladder.{Fails, here, there, Holds, checks-fail, checks-hold}
 use Rattle.book.proofs.FormatLaws.{width-positive, not-accepted}
 use Rattle.book.proofs.TestOrder.{tested-in-order}
+use Rattle.gate.specs.Plain.{In}
 use Rattle.claims.specs.Table.{LastIs, the-last, before-last, NotAbovePair, a-below, b-not-above, NotAboveCut, r-below, j-below, o-not-above, ReadTo, from-start, behind, CommandAt, is-43, is-52, is-53, is-42, is-48, NoCommandAt, Fault, inside-operands, after-later-group, before-any-52, a-above-15, b-above-15, a-above-b, kind-above-15, pair-not-above, triple-not-above, not-the-count, cut-undeclared, viewer-undeclared, seen-by-itself, done-undeclared, run-17, step-33-of-run, step-129, after-step-0, not-below-steps, no-step-left, BookRow, book-over, no-command, before-45, at-command, after-45}
 
 -- ---- tests in order
@@ -74,16 +77,15 @@ unbroken-holds (t ∷ ts) f = (go (t .holds) refl, unbroken-holds ts (λ n b. f 
 
 -- ---- the number at an index of the order
 
-index-getD : (n : ℕ) (ns : List ℕ) → index-of n ns < length ns → getD ns (index-of n ns) 0 ≡ n
+index-getD : (n : ℕ) (ns : List ℕ) → In n ns → getD ns (index-of n ns) 0 ≡ n
 index-getD n [] h = absurd (omega arith)
-index-getD n (m ∷ ms) h = go (eqb n m) refl h (index-getD n ms)
+index-getD n (m ∷ ms) h = go (eqb m n) refl h (index-getD n ms)
   where
-    go : (b : Bool) → eqb n m ≡ b → pick b 0 (suc (index-of n ms)) < suc (length ms) → (index-of n ms < length ms → getD ms (index-of n ms) 0 ≡ n)
-        → getD (m ∷ ms) (pick b 0 (suc (index-of n ms))) 0 ≡ n
-    go true e h r = sym (eqb-true n m e)
-    go false e h r = r (omega arith)
+    go : (b : Bool) → eqb m n ≡ b → 0 < suc-if b (count ms n) → (In n ms → getD ms (index-of n ms) 0 ≡ n) → getD (m ∷ ms) (pick b 0 (suc (index-of n ms))) 0 ≡ n
+    go true e h r = eqb-true m n e
+    go false e h r = r h
 
-rank-same : (n m : ℕ) → rank n < length test-order → rank m < length test-order → rank n ≡ rank m → n ≡ m
+rank-same : (n m : ℕ) → In n test-order → In m test-order → rank n ≡ rank m → n ≡ m
 rank-same n m h k e = sym (index-getD n test-order h) ∙ ap (λ (i : ℕ). getD test-order i 0) e ∙ index-getD m test-order k
 
 -- ---- a ladder of tests that refuses, or goes on
@@ -349,7 +351,7 @@ refused-row s cause place e = go (leb (length s) 16384) refl e
 -- each test's number stands in the order
 abbrev Ranked : List Test → Type 0
 Ranked [] = Unit {0}
-Ranked (t ∷ ts) = (rank (number (t .cause)) < length test-order) × Ranked ts
+Ranked (t ∷ ts) = In (number (t .cause)) test-order × Ranked ts
 
 ranked : (s : List ℕ) (at : ℕ) (t : ReadState) (c : Command) → Ranked (command-tests deck-rules s at t c)
 unfolding operand-tests
@@ -359,7 +361,7 @@ ranked s at t (step x) = (omega arith, (omega arith, (omega arith, (omega arith,
 ranked s at t (cut c) = (omega arith, (omega arith, (omega arith, (omega arith, (omega arith, (omega arith, (omega arith, (omega arith, tt))))))))
 ranked s at t (done r) = (omega arith, (omega arith, (omega arith, (omega arith, tt))))
 
-broken-ranked : {ts : List Test} {n : ℕ} → Ranked ts → Broken ts n → rank n < length test-order
+broken-ranked : {ts : List Test} {n : ℕ} → Ranked ts → Broken ts n → In n test-order
 broken-ranked r (at-once e) = r .0
 broken-ranked r (later b) = broken-ranked (r .1) b
 
@@ -414,6 +416,18 @@ row-refused s n place (at-command {at} {t} {c} short r h k f early) =
     (g .0, (refused-there (g .0) at short r (command-there s at t h k ∙ checks-fail _ (g .0) at _ (g .1)), first-number s at n t c (g .0) f early (g .1)))
 row-refused s n place (after-45 {at} {t} short r b l) =
     (BytesAfterEnd, (refused-there BytesAfterEnd (at + 1) short r (end-there s at t (omega arith) b ∙ rw (lt-leb (length s) (at + 1) l)), refl))
+
+-- ---- a row's number is one of a book's refusals
+
+within : (n m : ℕ) (ns ks : List ℕ) → In n ns → In n (m ∷ ns ++ ks)
+within n m ns ks h = omega (arith, count-append (m ∷ []) (ns ++ ks) n, count-append ns ks n)
+
+pub row-numbered : (s : List ℕ) (n place : ℕ) → BookRow s n place → In n book-numbers
+row-numbered s n place (book-over h) = omega arith
+row-numbered s n place (no-command short r h f) = omega arith
+row-numbered s n place (before-45 short r) = omega arith
+row-numbered s n place (at-command {at} {t} {c} short r h k f early) = within n 1 test-order (11 ∷ []) (broken-ranked (ranked s at t c) (fault-broken s at t f))
+row-numbered s n place (after-45 short r b l) = omega arith
 
 -- ---- so at most one row applies, and none to an accepted book
 

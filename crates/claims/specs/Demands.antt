@@ -11,6 +11,7 @@ use Rattle.theory.specs.Graph.{Cycle}
 use Rattle.buffer.specs.Put.{Put}
 use Rattle.book.specs.Format.{Bytes, Contents, nothing, accepted, step-limit, read}
 use Rattle.book.specs.Numbers.{Numbers, reading-numbers}
+use Rattle.book.specs.TestOrder.{book-numbers}
 use Rattle.book.specs.Meaning.{conflict-of, unit-of}
 use Rattle.book.specs.Book.{empty-book, outcome-of, ReadAs}
 use Rattle.book.specs.declared.Reading.{Reading}
@@ -22,7 +23,7 @@ use Rattle.judge.specs.declared.Judgement.{Judgement}
 use Rattle.judge.specs.declared.Verdict.the-variants.{Passed, Tangled}
 use Rattle.classes.specs.Tested.{tested-numbers, TestedAs}
 use Rattle.classes.specs.declared.Tested.{Tested}
-use Rattle.gate.specs.Plain.{Call, Answer as PlainAnswer, newly-opened}
+use Rattle.gate.specs.Plain.{Call, Answer as PlainAnswer, In, newly-opened}
 use Rattle.gate.specs.Gate.{reply-numbers, book-of, state-of, opening-numbers, opened-book, OpenedAs, CalledAs}
 use Rattle.gate.specs.Chain.{Chain}
 use Rattle.gate.specs.Demand.{Demand3}
@@ -39,7 +40,7 @@ use Rattle.capi.specs.declared.Judged.{Judged}
 use Rattle.capi.specs.declared.OpenedGate.{OpenedGate}
 use Rattle.claims.specs.Table.{BookRow, NoRow, JudgeRow, WriterRow, GateRow, ReplayRow}
 
--- Demand 1, of a call that answers the numbers n, where the rows R of document 01's table (Table) are its refusals, and Same says that every lent byte
+-- Demand 1, of a call that answers the numbers n, where the rows R of the documents' table (Table) are its refusals, and Same says that every lent byte
 -- and the record are as at entry; of a book or a gate that a call hands back, that it is the one without runs, and of a replay's gate, that it is as opened.
 pub record TurnsAway (R : ℕ → ℕ → Type 0) (n : Numbers) (Same : Type 0) : Type 0 where
   -- Each refusal has the number and place in document 01,
@@ -78,6 +79,8 @@ opened-numbers r = record { number = r .number; place = r .place; value = 0 }
 
 -- Demand 1 of every call: by its contract, its refusals are these rows. Same is Unit where a call is lent nothing that it could write to.
 pub record Demand1 : Type 1 where
+  -- a book's refusals: document 01's "1 to 11", and each later check of the reader
+  pub book-refusals : (s : List ℕ) (n place : ℕ) → BookRow s n place → In n book-numbers
   pub read-bytes : (s : List ℕ) (r : Reading) → ReadAs (read s) r → TurnsAway (BookRow s) (reading-numbers (outcome-of r)) (r .book ≡ empty-book)
   pub deck-read : (s : List ℕ) (r : Answered) → ReadCall s r → TurnsAway (BookRow s) (answered-numbers r) (Unit {0})
   pub judge-bytes : (s order order′ cycle cycle′ : List ℕ) (r : Judgement) → BytesJudged order order′ cycle cycle′ s r

@@ -8,7 +8,6 @@ use mathlib.Core.List.{List, []}
 use lib.ListN.{drop}
 use Rattle.theory.specs.Relative.{RelativelySerializable}
 use Rattle.book.specs.Format.{Contents, Outcome, accepted}
-use Rattle.book.specs.Numbers.{value-of}
 use Rattle.book.specs.Meaning.{conflict-of, unit-of}
 use Rattle.book.specs.Book.{ReadAs}
 use Rattle.judge.specs.Judged.{verdict-numbers}

@@ -1,6 +1,6 @@
--- Document 01's table, "When something is turned away": what is wrong, the number of that refusal, and its place. First rows 1 to 11, of a book, then the
--- calls' own. 24 and 25, the replay's, and 26, the gate's on a record that is not sound, follow document 01's rule for refusals added later.
--- proofs/Table: a book is refused with a number at a place exactly where a row here says so.
+-- Document 01's table, "When something is turned away", with the checks that document 02 adds: what is wrong, the number of that refusal, and its place.
+-- First the rows of a book, then the calls' own. 24 and 25, the replay's, and 26, the gate's on a record that is not sound, follow document 01's rule for
+-- refusals added later. proofs/Table: a book is refused with a number at a place exactly where a row here says so.
 use Prim.Native.Nat.{ℕ, suc, _+_, _≤_, _<_}
 use mathlib.Core.Path.{_≡_}
 use mathlib.Core.Logic.{_≢_}
@@ -72,15 +72,17 @@ module _ (s : List ℕ) where
     viewer-undeclared : {c : Cut} → length (t .contents .runs) ≤ c .seen-by → Fault at t (cut c) 7
     seen-by-itself : {c : Cut} → c .of-run ≡ c .seen-by → Fault at t (cut c) 7
     done-undeclared : {r : ℕ} → length (t .contents .runs) ≤ r → Fault at t (done r) 7
-    -- 8: 17th run, 33rd step of a run, 129th step
+    -- 8: 17th run
     run-17 : {r : ℕ} → 16 ≤ length (t .contents .runs) → Fault at t (run r) 8
-    step-33-of-run : {x : Step} → 32 ≤ last (lengths (t .contents .runs)) → Fault at t (step x) 8
-    step-129 : {x : Step} → 128 ≤ sum (lengths (t .contents .runs)) → Fault at t (step x) 8
     -- 9: j is 0, or not below the steps of r
     after-step-0 : {c : Cut} → c .after ≡ 0 → Fault at t (cut c) 9
     not-below-steps : {c : Cut} → getD (lengths (t .contents .runs)) (c .of-run) 0 ≤ c .after → Fault at t (cut c) 9
     -- 10: 48 for a run with no step left
     no-step-left : {r : ℕ} → getD (lengths (t .contents .runs)) r 0 ≤ count (t .contents .history) r → Fault at t (done r) 10
+    -- 30: 33rd step of a run
+    step-33-of-run : {x : Step} → 32 ≤ last (lengths (t .contents .runs)) → Fault at t (step x) 30
+    -- 31: 129th step of the book
+    step-129 : {x : Step} → 128 ≤ sum (lengths (t .contents .runs)) → Fault at t (step x) 31
 
   -- commands without a fault are read in turn: reading comes to this offset, and the state has the group of the last command and the contents so far
   pub data ReadTo : ℕ → ReadState → Type 0 where
@@ -95,7 +97,7 @@ module _ (s : List ℕ) where
     no-command : {at : ℕ} {t : ReadState} → length s ≤ 16384 → ReadTo at t → at < length s → NoCommandAt at → BookRow 2 at
     -- 3: book ends before 45; the length, where no command began
     before-45 : {t : ReadState} → length s ≤ 16384 → ReadTo (length s) t → BookRow 3 (length s)
-    -- 3 to 10: the command's offset; of several faults the first in the order 2, 3, 4, 5, 7, 8, 9, 6, 10
+    -- a fault of the command: its offset; of several faults the first in the order of the tests
     at-command : {at n : ℕ} {t : ReadState} {c : Command} → length s ≤ 16384 → ReadTo at t → at < length s → CommandAt at c → Fault at t c n
         → ((m : ℕ) → index-of m test-order < index-of n test-order → ¬ Fault at t c m) → BookRow n at
     -- 11: bytes after 45; the offset of the first
@@ -107,14 +109,14 @@ NoRow s = (n place : ℕ) → ¬ BookRow s n place
 
 -- ---- 12, 13 and 20 to 26: a call's refusal, number and place; where the table says "number only" the place is 0
 
--- the judge: 12 comes first, then 1 to 11
+-- the judge: 12 comes first, then the book's
 pub data JudgeRow (s order cycle : List ℕ) : ℕ → ℕ → Type 0 where
   -- 12: order or cycle buffer under 128 bytes
   order-under-128 : length order < 128 → JudgeRow s order cycle 12 0
   cycle-under-128 : length cycle < 128 → JudgeRow s order cycle 12 0
   judged-book : {n place : ℕ} → 128 ≤ length order → 128 ≤ length cycle → BookRow s n place → JudgeRow s order cycle n place
 
--- the writer: 1 to 11 come first, then 13
+-- the writer: the book's come first, then 13
 pub data WriterRow (s out : List ℕ) : ℕ → ℕ → Type 0 where
   written-book : {n place : ℕ} → BookRow s n place → WriterRow s out n place
   -- 13: the buffer shorter than the book
@@ -147,7 +149,7 @@ pub data NoCallAt : List ℕ → ℕ → Type 0 where
   behind-53 : {r at : ℕ} {bs : List ℕ} → NoCallAt bs at → NoCallAt (0x53 ∷ r ∷ bs) (suc (suc at))
   behind-57 : {r at : ℕ} {bs : List ℕ} → NoCallAt bs at → NoCallAt (0x57 ∷ r ∷ bs) (suc (suc at))
 
--- the replay of a list of calls: 1 to 11 come first, then 24, then 25
+-- the replay of a list of calls: the book's come first, then 24, then 25
 pub data ReplayRow (s calls answers : List ℕ) : ℕ → ℕ → Type 0 where
   replayed-book : {n place : ℕ} → BookRow s n place → ReplayRow s calls answers n place
   -- 24: no call, or a cut-off one; its offset in the list

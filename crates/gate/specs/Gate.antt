@@ -38,7 +38,7 @@ pub record Sound (g : Gate) : Type 0 where
   pub valid : Valid (g .book)
   pub flags : Flags run-limit (g .withdrawn)
 
--- opening is refused by 1 to 11 with cause and place, as reading is, and then hands back the gate of a book without runs
+-- opening is refused with cause and place as reading is, and then hands back the gate of a book without runs
 abbrev pub opening-answer : Outcome → BookAnswer
 opening-answer (book-refused cause at) = BookRefused cause at
 opening-answer (book-accepted c) = BookAccepted

@@ -59,8 +59,8 @@ abbrev pub played-numbers : Played → Numbers
 played-numbers (Refused cause at) = refused-with cause at
 played-numbers (Done n) = value-of n
 
--- the answer for the calls bs and a buffer of n bytes, of the outcome of reading the book: 1 to 11 come first, then 24 at its
--- offset of the list, then 25
+-- the answer for the calls bs and a buffer of n bytes, of the outcome of reading the book: the book's refusals come first,
+-- then 24 at its offset of the list, then 25
 abbrev pub played-by : Outcome → List ℕ → ℕ → Played
 played-by (book-refused cause at) bs n = Refused cause at
 played-by (book-accepted c) bs n =

@@ -16,7 +16,7 @@ abbrev pub written-numbers : Written → Numbers
 written-numbers (Length n) = value-of n
 written-numbers (Refused cause place) = refused-with cause place
 
--- the answer for the bytes s, with the outcome of reading them, and a buffer of n bytes: 1 to 11 come first, then 13
+-- the answer for the bytes s, with the outcome of reading them, and a buffer of n bytes: the book's refusals come first, then 13
 abbrev pub written-by : Outcome → List ℕ → ℕ → Written
 written-by (refused cause place) s n = Refused cause place
 written-by (accepted c) s n = pick (leb (length s) n) (Length (length s)) (Refused WriterBufferShort 0)
