@@ -1,7 +1,8 @@
 -- The order of a book's tests. Document 01: "Commands are read in turn, each tested for 2, 3, 4, 5, 7, 8, 9, 6, 10; then 11". Document 02: 30, then 31,
 -- both where 8 was tested. The tests of 2 and 11 stand in `command-at` and `end-at`; those of a command, from 3 on, are its `command-tests`.
-use Prim.Native.Nat.{ℕ, suc, _≤_}
+use Prim.Native.Nat.{ℕ, suc, _≤_, _<_}
 use mathlib.Core.List.{List, [], _∷_, _++_}
+use lib.ListN.{length}
 use lib.Dec.{eqb}
 use Rattle.book.specs.Format.{pick, Command, Test, ReadState, command-tests}
 use Rattle.book.specs.Numbers.{number}
@@ -19,11 +20,15 @@ abbrev pub index-of : ℕ → List ℕ → ℕ
 index-of n [] = 0
 index-of n (m ∷ ms) = pick (eqb m n) 0 (suc (index-of n ms))
 
--- none of these tests comes before one that the order has earlier
+-- where a number stands in the order; one that is not in it, behind all that are
+abbrev pub rank : ℕ → ℕ
+rank n = index-of n test-order
+
+-- the numbers of these tests are in the order, and none comes before one that the order has earlier
 abbrev pub InOrder : List Test → Type 0
 InOrder [] = Unit {0}
-InOrder (t ∷ []) = Unit {0}
-InOrder (t ∷ u ∷ us) = (index-of (number (t .cause)) test-order ≤ index-of (number (u .cause)) test-order) × InOrder (u ∷ us)
+InOrder (t ∷ []) = rank (number (t .cause)) < length test-order
+InOrder (t ∷ u ∷ us) = (rank (number (t .cause)) ≤ rank (number (u .cause))) × InOrder (u ∷ us)
 
 abbrev pub TestedInOrder : Type 0
 TestedInOrder = (ρ : Rules) (s : List ℕ) (at : ℕ) (t : ReadState) (c : Command) → InOrder (command-tests ρ s at t c)

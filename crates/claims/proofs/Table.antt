@@ -14,7 +14,7 @@ use Rattle.theory.specs.History.{suc-if, count}
 use Rattle.theory.specs.Deck.{Pair, Cut}
 use Rattle.theory.proofs.Lists.{count-append}
 use Rattle.book.specs.Format.{Contents, Outcome, refused, accepted, deck-rules, pick, byte, Command, pair, run, step, cut, done, width, above-pair, above-cut, operand-tests, Test, ReadState, Move, on, over, check, checks, command-tests, next-state, obeyed, obey, follow, end-at, command-at, read-from, read-commands, read-by, read, start}
-use Rattle.book.specs.TestOrder.{test-order, book-numbers, index-of, InOrder}
+use Rattle.book.specs.TestOrder.{test-order, book-numbers, index-of, rank, InOrder}
 use Rattle.book.specs.Numbers.{number}
 use Rattle.book.specs.declared.Cause.{Cause}
 use Rattle.book.specs.declared.Cause.the-variants.{BookTooLong, NoCommand, EndsEarly, BytesAfterEnd}
@@ -31,10 +31,6 @@ data Broken : List Test → ℕ → Type 0 where
   at-once : {t : Test} {ts : List Test} → t .holds ≡ false → Broken (t ∷ ts) (number (t .cause))
   later : {t : Test} {ts : List Test} {n : ℕ} → Broken ts n → Broken (t ∷ ts) n
 
--- where a number stands in the order of tests
-abbrev rank : ℕ → ℕ
-rank n = index-of n test-order
-
 in-order-behind : (t : Test) (ts : List Test) → InOrder (t ∷ ts) → InOrder ts
 in-order-behind t [] o = tt
 in-order-behind t (u ∷ us) o = o .1
@@ -43,6 +39,15 @@ broken-rank : {t : Test} {ts : List Test} {n : ℕ} → InOrder (t ∷ ts) → B
 broken-rank {t} o (at-once e) = le-refl _
 broken-rank o (later (at-once e)) = o .0
 broken-rank o (later (later b)) = le-trans (o .0) (broken-rank (o .1) (later b))
+
+-- each number stands in the order
+first-ranked : (t : Test) (ts : List Test) → InOrder (t ∷ ts) → rank (number (t .cause)) < length test-order
+first-ranked t [] o = o
+first-ranked t (u ∷ us) o = omega (arith, o .0, first-ranked u us (o .1))
+
+broken-ranked : {ts : List Test} {n : ℕ} → InOrder ts → Broken ts n → rank n < length test-order
+broken-ranked o (at-once {t} {ts} e) = first-ranked t ts o
+broken-ranked o (later {t} {ts} b) = broken-ranked (in-order-behind t ts o) b
 
 -- what fails first has the lowest number in the order
 first-fails : {ts : List Test} {c : Cause} → InOrder ts → Fails ts c → (m : ℕ) → rank m < rank (number c) → ¬ Broken ts m
@@ -77,15 +82,24 @@ unbroken-holds (t ∷ ts) f = (go (t .holds) refl, unbroken-holds ts (λ n b. f 
 
 -- ---- the number at an index of the order
 
-index-getD : (n : ℕ) (ns : List ℕ) → In n ns → getD ns (index-of n ns) 0 ≡ n
+index-getD : (n : ℕ) (ns : List ℕ) → index-of n ns < length ns → getD ns (index-of n ns) 0 ≡ n
 index-getD n [] h = absurd (omega arith)
 index-getD n (m ∷ ms) h = go (eqb m n) refl h (index-getD n ms)
   where
-    go : (b : Bool) → eqb m n ≡ b → 0 < suc-if b (count ms n) → (In n ms → getD ms (index-of n ms) 0 ≡ n) → getD (m ∷ ms) (pick b 0 (suc (index-of n ms))) 0 ≡ n
+    go : (b : Bool) → eqb m n ≡ b → pick b 0 (suc (index-of n ms)) < suc (length ms) → (index-of n ms < length ms → getD ms (index-of n ms) 0 ≡ n)
+        → getD (m ∷ ms) (pick b 0 (suc (index-of n ms))) 0 ≡ n
     go true e h r = eqb-true m n e
-    go false e h r = r h
+    go false e h r = r (omega arith)
 
-rank-same : (n m : ℕ) → In n test-order → In m test-order → rank n ≡ rank m → n ≡ m
+index-in : (n : ℕ) (ns : List ℕ) → index-of n ns < length ns → In n ns
+index-in n [] h = absurd (omega arith)
+index-in n (m ∷ ms) h = go (eqb m n) h (index-in n ms)
+  where
+    go : (b : Bool) → pick b 0 (suc (index-of n ms)) < suc (length ms) → (index-of n ms < length ms → In n ms) → 0 < suc-if b (count ms n)
+    go true h r = omega arith
+    go false h r = r (omega arith)
+
+rank-same : (n m : ℕ) → rank n < length test-order → rank m < length test-order → rank n ≡ rank m → n ≡ m
 rank-same n m h k e = sym (index-getD n test-order h) ∙ ap (λ (i : ℕ). getD test-order i 0) e ∙ index-getD m test-order k
 
 -- ---- a ladder of tests that refuses, or goes on
@@ -348,23 +362,6 @@ refused-row s cause place e = go (leb (length s) 16384) refl e
 
 -- ---- each row that applies is the refusal
 
--- each test's number stands in the order
-abbrev Ranked : List Test → Type 0
-Ranked [] = Unit {0}
-Ranked (t ∷ ts) = In (number (t .cause)) test-order × Ranked ts
-
-ranked : (s : List ℕ) (at : ℕ) (t : ReadState) (c : Command) → Ranked (command-tests deck-rules s at t c)
-unfolding operand-tests
-ranked s at t (pair p) = (omega arith, (omega arith, (omega arith, (omega arith, (omega arith, tt)))))
-ranked s at t (run r) = (omega arith, (omega arith, (omega arith, (omega arith, tt))))
-ranked s at t (step x) = (omega arith, (omega arith, (omega arith, (omega arith, (omega arith, (omega arith, tt))))))
-ranked s at t (cut c) = (omega arith, (omega arith, (omega arith, (omega arith, (omega arith, (omega arith, (omega arith, (omega arith, tt))))))))
-ranked s at t (done r) = (omega arith, (omega arith, (omega arith, (omega arith, tt))))
-
-broken-ranked : {ts : List Test} {n : ℕ} → Ranked ts → Broken ts n → In n test-order
-broken-ranked r (at-once e) = r .0
-broken-ranked r (later b) = broken-ranked (r .1) b
-
 -- reading comes to an offset with commands left
 record Reached (s : List ℕ) (at : ℕ) (t : ReadState) : Type 0 where
   left : ℕ
@@ -401,10 +398,13 @@ first-number s at n t c cause f early g = go (decLt (rank (number cause)) (rank 
     b : Broken (command-tests deck-rules s at t c) n
     b = fault-broken s at t f
 
+    o : InOrder (command-tests deck-rules s at t c)
+    o = tested-in-order deck-rules s at t c
+
     go : Dec (rank (number cause) < rank n) → Dec (rank n < rank (number cause)) → number cause ≡ n
     go (yes l) d = absurd (early (number cause) l (broken-fault s at t (fails-broken g)))
-    go (no l) (yes k) = absurd (first-fails (tested-in-order deck-rules s at t c) g n k b)
-    go (no l) (no k) = rank-same (number cause) n (broken-ranked (ranked s at t c) (fails-broken g)) (broken-ranked (ranked s at t c) b) (omega arith)
+    go (no l) (yes k) = absurd (first-fails o g n k b)
+    go (no l) (no k) = rank-same (number cause) n (broken-ranked o (fails-broken g)) (broken-ranked o b) (omega arith)
 
 pub row-refused : (s : List ℕ) (n place : ℕ) → BookRow s n place → (cause : Cause) × ((read s ≡ refused cause place) × (number cause ≡ n))
 unfolding read-by end-at
@@ -426,7 +426,7 @@ pub row-numbered : (s : List ℕ) (n place : ℕ) → BookRow s n place → In n
 row-numbered s n place (book-over h) = omega arith
 row-numbered s n place (no-command short r h f) = omega arith
 row-numbered s n place (before-45 short r) = omega arith
-row-numbered s n place (at-command {at} {t} {c} short r h k f early) = within n 1 test-order (11 ∷ []) (broken-ranked (ranked s at t c) (fault-broken s at t f))
+row-numbered s n place (at-command {at} {t} {c} short r h k f early) = within n 1 test-order (11 ∷ []) (index-in n test-order (broken-ranked (tested-in-order deck-rules s at t c) (fault-broken s at t f)))
 row-numbered s n place (after-45 short r b l) = omega arith
 
 -- ---- so at most one row applies, and none to an accepted book

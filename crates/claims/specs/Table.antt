@@ -11,7 +11,7 @@ use Rattle.theory.specs.History.{count}
 use Rattle.theory.specs.Relative.{RelativelySerializable}
 use Rattle.theory.specs.Deck.{Pair, Step, Cut}
 use Rattle.book.specs.Format.{Command, pair, run, step, cut, done, ReadState, start, next-state, byte, last, lengths, width, group-of, pair-at, run-at, step-at, cut-at, done-at}
-use Rattle.book.specs.TestOrder.{index-of, test-order}
+use Rattle.book.specs.TestOrder.{rank}
 use Rattle.book.specs.Meaning.{conflict-of, unit-of}
 use Rattle.gate.specs.Plain.{Call, step as step-call, withdraw as withdraw-call, In, Eligible}
 use Rattle.gate.specs.Gate.{book-of, state-of, Sound}
@@ -99,7 +99,7 @@ module _ (s : List ℕ) where
     before-45 : {t : ReadState} → length s ≤ 16384 → ReadTo (length s) t → BookRow 3 (length s)
     -- a fault of the command: its offset; of several faults the first in the order of the tests
     at-command : {at n : ℕ} {t : ReadState} {c : Command} → length s ≤ 16384 → ReadTo at t → at < length s → CommandAt at c → Fault at t c n
-        → ((m : ℕ) → index-of m test-order < index-of n test-order → ¬ Fault at t c m) → BookRow n at
+        → ((m : ℕ) → rank m < rank n → ¬ Fault at t c m) → BookRow n at
     -- 11: bytes after 45; the offset of the first
     after-45 : {at : ℕ} {t : ReadState} → length s ≤ 16384 → ReadTo at t → byte s at ≡ 0x45 → at + 1 < length s → BookRow 11 (at + 1)
 
