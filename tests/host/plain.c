@@ -1,4 +1,4 @@
-/* Document 01 in plain C. The judge works on rows of two 64-bit words; the class tests, the arc test and the evidence checks follow the
+/* Documents 01 and 02 in plain C. The judge works on rows of two 64-bit words; the class tests, the arc test and the evidence checks follow the
    definitions place by place. */
 #include "plain.h"
 #include <string.h>

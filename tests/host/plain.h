@@ -1,4 +1,4 @@
-/* Document 01 in plain C, for tests and benchmarks: an implementation of its own, which shares no text with the proved code. The limits and the numbers
+/* Documents 01 and 02 in plain C, for tests and benchmarks: an implementation of its own, which shares no text with the proved code. The limits and the numbers
    of refusal are those of include/deck.h. */
 #ifndef PLAIN_H
 #define PLAIN_H

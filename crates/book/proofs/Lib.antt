@@ -2,8 +2,9 @@
 -- to it; Empty, the empty book; WithHistory, the loop of `with_history`, over Books' law of one more done step; Determined, a valid book
 -- is determined by what it means.
 -- The format: Numbers, each cause has a number of its own; Ladder, a table of tests, row by row; TestOrder, each table stands in the documents' order;
--- FormatLaws, the format as a relation between states, along which the reader accepts and no other way; RenderLaws, the bytes of contents command by command; Sizes, how many they are; Histories, what stays well-formed with another history;
--- RoundTrip, both directions: what is rendered is read, and what is accepted is its rendering.
+-- FormatLaws, the format as a relation between states, along which the reader accepts and no other way; RenderLaws, the bytes of contents command by
+-- command; Sizes, how many they are; Histories, what stays well-formed with another history; RoundTrip, both directions: what is rendered is read, and
+-- what is accepted is its rendering.
 pub mod Numbers
 pub mod Ladder
 pub mod TestOrder

@@ -1,7 +1,7 @@
 -- The format of a deck book, as one function from a list of bytes to an outcome: refused with cause and place, or accepted with the
 -- book's contents (document 01, "Deck book" and "When something is turned away"). Each command has its bytes, its effect and a table of
--- tests in document 01's order, 2, 3, 4, 5, 7, 8, 9, 6, 10, then 11; the first that fails refuses. The format is over its rules: the limits of
--- steps and bytes, and the commands that not every dialect has.
+-- tests in the documents' order (TestOrder); the first that fails refuses. The format is over its rules: the limits of steps and bytes, and the
+-- commands that not every dialect has.
 use Prim.Native.Nat.{ℕ, zero, suc, _+_, _-_, _*_, _/_, _%_, _<_, _≤_}
 use mathlib.Core.List.{List, [], _∷_, _++_}
 use mathlib.Core.Bool.{Bool, true, false, not}

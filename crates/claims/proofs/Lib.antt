@@ -1,4 +1,4 @@
--- Table: document 01's table of a book's refusals is the format. Refusals: demand 1. Demands: demands 2 and 3, and the twelve rows. Determined: two results
+-- Table: the documents' table of a book's refusals is the format. Refusals: demand 1. Demands: demands 2 and 3, and the twelve rows. Determined: two results
 -- that meet a call's contract are equal. Lazy: document 01's lazy programs do not meet the demands.
 pub mod Table
 pub mod Refusals

@@ -1,4 +1,4 @@
--- Demand 1: each call's refusals are the rows of document 01's table. A call that reads a book is refused as the book is, by proofs/Table; a call's own
+-- Demand 1: each call's refusals are the rows of the documents' table. A call that reads a book is refused as the book is, by proofs/Table; a call's own
 -- rows are the cases of its contract.
 use Prim.Native.Nat.{ℕ, suc, _+_, _*_, _≤_, _<_}
 use native.Mathlib.Decide.{decLt, ℕ-discrete}
