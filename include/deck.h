@@ -35,7 +35,7 @@ enum deck_number {
     DECK_WRONG_KIND = 5, /* kind above 15, or a above b */
     DECK_NOT_RISING = 6, /* pair or triple not above the one before */
     DECK_WRONG_RUN = 7, /* 52 not the next run; 42 or 48 a run not declared; 42 a run as seen by itself */
-    DECK_TOO_MANY_RUNS = 8, /* 17th run */
+    DECK_TOO_MANY_RUNS = 8, /* 17th run: the book has to be split */
     DECK_WRONG_CUT = 9, /* cut after step 0, or not before the last step */
     DECK_NO_STEP_LEFT = 10, /* 48 for a run with no step left */
     DECK_BYTES_AFTER_END = 11, /* bytes after 45 */
@@ -48,8 +48,8 @@ enum deck_number {
     DECK_NO_CALL = 24, /* replay: no call, or a cut-off one, at an offset of the list */
     DECK_ANSWERS_SHORT = 25, /* replay: the buffer of answers under two bytes a call */
     DECK_GATE_DAMAGED = 26, /* gate: a table of the record out of range, or not in agreement with another */
-    DECK_RUN_TOO_LONG = 30, /* 33rd step of a run */
-    DECK_TOO_MANY_STEPS = 31, /* 129th step of the book */
+    DECK_RUN_TOO_LONG = 30, /* 33rd step of a run, be it the 129th of the book too: the run has to be split */
+    DECK_TOO_MANY_STEPS = 31, /* 129th step of the book: the book has to be split */
 };
 
 enum deck_verdict { DECK_REFUSED = 0, DECK_PASSED = 1, DECK_TANGLED = 2 };
@@ -125,7 +125,7 @@ _Static_assert
 #endif
     (sizeof(deck_gate) == 9160 && offsetof(deck_gate, withdrawn) == 9144 && sizeof(deck_opened) == 9176, "no padding");
 
-/* Opens a gate over the book, whose own history plays no part: no step is kept, no run withdrawn. Refused where the book is. */
+/* Opens a gate over the book, whose own history plays no part: no step is kept, no run withdrawn. Refused as the book is. */
 deck_opened deck_open(const uint8_t *book, size_t book_len);
 
 /* Steps a run: refused by 26, 20, 21, 22, 23 in that order; else the run joins the end of the kept list, and the value is its place there. */

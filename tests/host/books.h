@@ -29,7 +29,7 @@ typedef struct {
 /* The length of a legal book of that shape, which goes to out, of BOOK_ROOM bytes. */
 size_t make_book(source *s, const shape *f, uint8_t *out);
 
-/* The length of a book over the limits, which goes to out: a run, a step of a run, a step of the book, a step of both or a byte too many. */
+/* The length of a book over the limits, which goes to out: a run, a step of a run, a step of the book, a step that is both or a byte too many. */
 size_t make_long_book(source *s, uint8_t *out);
 
 /* A shape drawn by chance, small or large. */

@@ -1,6 +1,6 @@
 /* Compares the proved calls with plain.c on many books from a fixed seed, whole and damaged, and on gates' records, as the calls leave them and altered,
    and checks the evidence of each verdict. Prints 'N passed, M failed', a count of books, and how many altered records there were of each sort; it fails
-   where there were none. */
+   where there were none, and where the books lack one of the refusals of a book. */
 #include "books.h"
 #include "plain.h"
 #include <stdio.h>
@@ -12,6 +12,7 @@ enum { ROOM = DECK_BUFFER + 72 }; /* of each buffer, filled beforehand so that a
 
 static const char *fault;
 static long altered[2]; /* records: those not sound, those sound */
+static long refused[DECK_TOO_MANY_STEPS + 1]; /* books, by the number of their refusal */
 
 static int expect(int ok, const char *what) {
     if (!ok && !fault)
@@ -286,6 +287,7 @@ static const char *compare(source *s, const uint8_t *book, size_t len) {
     int count, passed;
     fault = NULL;
     plain_refusal r = plain_read(book, len, &b);
+    refused[r.number]++;
     compare_answer(deck_read(book, len), r, b.n, "reader");
     compare_judge(book, len, &b, r, found, &count, &passed);
     compare_short_buffers(s, book, len);
@@ -316,5 +318,10 @@ static const char *compare(source *s, const uint8_t *book, size_t len) {
 int main(void) {
     int status = test_books(20261115, BOOKS, compare);
     printf("altered records: %ld not sound, %ld sound\n", altered[0], altered[1]);
+    for (int number = DECK_BOOK_TOO_LONG; number <= DECK_TOO_MANY_STEPS; number++)
+        if (!refused[number] && (number <= DECK_BYTES_AFTER_END || number >= DECK_RUN_TOO_LONG)) {
+            printf("no book refused by %d\n", number);
+            status = 1;
+        }
     return status || !altered[0] || !altered[1];
 }

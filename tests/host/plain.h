@@ -1,5 +1,5 @@
-/* Documents 01 and 02 in plain C, for tests and benchmarks: an implementation of its own, which shares no text with the proved code. The limits and the numbers
-   of refusal are those of include/deck.h. */
+/* Document 01 with document 02's changes so far in plain C, for tests and benchmarks: an implementation of its own, which shares no text with the proved
+   code. The limits and the numbers of refusal are those of include/deck.h. */
 #ifndef PLAIN_H
 #define PLAIN_H
 #include "deck.h"

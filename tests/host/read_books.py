@@ -1,16 +1,17 @@
 #!/usr/bin/env python3
-"""Writes the files stdin and stdout of crates/read_books: books on both sides of every limit and for every refusal, and what the documents say of each.
+"""Writes the files stdin and stdout of crates/read_books: books on both sides of every limit and for every refusal, and what document 01 says of each,
+with document 02's changes so far.
 
     tests/host/read_books.py FOLDER     to FOLDER/stdin and FOLDER/stdout
 
-`outcome` is the documents' reader once more, written from their text alone: the tests that each command fails, and their order.
+`outcome` is the reader once more, written from the documents' text alone: the tests that each command fails, and their order.
 """
 import sys
 
 # Document 01, "Deck book": each command's group and its number of operands.
 COMMANDS = {0x43: (0, 2), 0x52: (1, 1), 0x53: (1, 3), 0x42: (2, 3), 0x48: (3, 1), 0x45: (4, 0)}
 
-# The order of a command's tests behind 2 and 3: document 01's, with document 02's 30 and 31 where 8 was tested.
+# The order of a command's tests behind 2 and 3: document 01's, with change 1's 30 and 31 where 8 was tested.
 ORDER = (4, 5, 7, 8, 30, 31, 9, 6, 10)
 
 

@@ -1,4 +1,4 @@
--- Each cause has a number of its own: the number leads back to the cause, which is the one in the list of all causes that has it.
+-- Each cause has a number of its own: of the list of all causes, the first with a cause's number is that cause.
 use Prim.Native.Nat.{ℕ}
 use mathlib.Core.Path.{_≡_, refl, ap, sym, _∙_}
 use mathlib.Core.List.{List, [], _∷_}
@@ -8,17 +8,15 @@ use Rattle.book.specs.Numbers.{number, OwnNumbers}
 use Rattle.book.specs.declared.Cause.{Cause}
 use Rattle.book.specs.declared.Cause.the-variants.{BookTooLong, NoCommand, EndsEarly, OutOfOrder, WrongKind, NotRising, WrongRun, TooManyRuns, RunTooLong, TooManySteps, WrongCut, NoStepLeft, BytesAfterEnd, JudgeBufferShort, WriterBufferShort, NotDeclared, Withdrawn, AllKept, Tangled, NoCall, AnswersShort, Damaged}
 
--- the first of these causes with the number n, or the other one where none has it
-abbrev first-with : ℕ → Cause → List Cause → Cause
-first-with n other [] = other
-first-with n other (c ∷ cs) = pick (eqb (number c) n) c (first-with n other cs)
+-- the first of these causes with the number n; where none has it, any
+abbrev first-with : ℕ → List Cause → Cause
+first-with n [] = BookTooLong
+first-with n (c ∷ cs) = pick (eqb (number c) n) c (first-with n cs)
 
--- the cause with the number n, if one has it
 pub cause-of : ℕ → Cause
 cause-of n =
     first-with
     n
-    BookTooLong
     (BookTooLong
     ∷ NoCommand
     ∷ EndsEarly

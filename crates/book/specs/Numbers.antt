@@ -1,4 +1,4 @@
--- The number of each cause of refusal (document 01, "When something is turned away", with document 02's requests), and an answer in numbers.
+-- The number of each cause of refusal (document 01, "When something is turned away"; document 02, change 1), and an answer in numbers.
 use Prim.Native.Nat.{ℕ}
 use mathlib.Core.Path.{_≡_}
 use lib.ListN.{length}

@@ -1,5 +1,5 @@
--- The order of a book's tests. Document 01: "Commands are read in turn, each tested for 2, 3, 4, 5, 7, 8, 9, 6, 10; then 11". Document 02: 30, then 31,
--- both where 8 was tested. The tests of 2 and 11 stand in `command-at` and `end-at`; those of a command, from 3 on, are its `command-tests`.
+-- The order of a book's tests. Document 01: "Commands are read in turn, each tested for 2, 3, 4, 5, 7, 8, 9, 6, 10; then 11". Document 02, change 1:
+-- 30, then 31, both where 8 was tested. The tests of 2 and 11 stand in `command-at` and `end-at`; those of a command, from 3 on, are its `command-tests`.
 use Prim.Native.Nat.{ℕ, suc, _≤_, _<_}
 use mathlib.Core.List.{List, [], _∷_, _++_}
 use lib.ListN.{length}

@@ -5,8 +5,8 @@ ghost use Rattle.book.specs.Numbers.{number};
 ghost use Rattle.book.specs.Format.{kind-limit, position-limit, run-limit, run-step-limit, step-limit, length-limit, with-history, Allowed};
 ghost use Rattle.book.specs.Book.{code-limit, step-coded, as-step, contents-of, empty-book, Valid, Represents};
 
-// Why something is turned away: one for each row of document 01's table, with document 02's, two of the replay's own, and one for a gate's record that
-// is not sound.
+// Why something is turned away: one for each row of document 01's table and each check of document 02, change 1, two of the replay's own, and one for a
+// gate's record that is not sound.
 pub enum Cause {
     // A book over the length limit.
     BookTooLong,

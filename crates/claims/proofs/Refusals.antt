@@ -28,7 +28,7 @@ use Rattle.judge.specs.declared.Verdict.the-variants.{Passed, Tangled, Refused 
 use Rattle.classes.specs.Tested.{tested-numbers, YesWhere, OutcomeTested, TestedAs}
 use Rattle.classes.specs.declared.Tested.{Tested}
 use Rattle.classes.specs.declared.Tested.the-variants.{Yes, No, Refused as NotTested}
-use Rattle.gate.specs.Plain.{Call, step, withdraw, Answer, place, refused as refused-by-number, State, PlainCall, step-refused, step-tangled, step-kept, withdraw-refused, withdraws, Refusal, not-declared, was-withdrawn, all-kept, newly-opened}
+use Rattle.gate.specs.Plain.{Call, step, withdraw, Answer, place, refused as refused-by-number, State, PlainCall, step-refused, step-tangled, step-kept, withdraw-refused, withdraws, Refusal, not-declared, was-withdrawn, all-kept}
 use Rattle.gate.specs.Gate.{answer-of, reply-numbers, book-of, state-of, Sound, opening-answer, opening-numbers, opened-book, OpenedAs, CalledAs, on-sound, on-damaged}
 use Rattle.gate.specs.Replay.{is-call, calls-of, bad-at, played-numbers, played-by, Replays}
 use Rattle.gate.specs.declared.Gate.{Gate}
@@ -46,6 +46,7 @@ use Rattle.report.specs.Reporting.{ReportOn, Reports}
 use Rattle.claims.specs.Table.{BookRow, NoRow, JudgeRow, order-under-128, cycle-under-128, judged-book, WriterRow, written-book, shorter-than-the-book, run-called, GateRow, row-20, row-21, row-22, row-23, row-26, NoCallAt, cut-off, not-53-or-57, behind-53, behind-57, ReplayRow, replayed-book, no-call, answers-short}
 use Rattle.claims.specs.Demands.{TurnsAway, BuffersUnchanged, AnswersUnchanged, WithoutRuns, Demand1}
 use Rattle.claims.proofs.Table.{refused-row, row-refused, row-numbered, row-single, accepted-no-row}
+use Rattle.claims.proofs.EachNumber.{each-number}
 
 -- ---- a refusal, and a call that is carried out
 
@@ -394,6 +395,7 @@ pub demand-1 : Demand1
 unfolding Turns
 demand-1 = record {
   book-refusals = row-numbered;
+  each-refusal = each-number;
   read-bytes = read-turns;
   deck-read = λ s r h. rw (h .numbers) (outcome-turns s (Unit {0}) (read s) refl (λ cause at e. tt));
   judge-bytes = judge-turns;

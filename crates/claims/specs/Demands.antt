@@ -43,7 +43,7 @@ use Rattle.claims.specs.Table.{BookRow, NoRow, JudgeRow, WriterRow, Gate
 -- Demand 1, of a call that answers the numbers n, where the rows R of the documents' table (Table) are its refusals, and Same says that every lent byte
 -- and the record are as at entry; of a book or a gate that a call hands back, that it is the one without runs, and of a replay's gate, that it is as opened.
 pub record TurnsAway (R : ℕ → ℕ → Type 0) (n : Numbers) (Same : Type 0) : Type 0 where
-  -- Each refusal has the number and place in document 01, which takes in document 02's requests,
+  -- Each refusal has the number and place in document 01, which takes in document 02,
   pub row : n .number ≢ 0 → R (n .number) (n .place)
   pub no-value : n .number ≢ 0 → n .value ≡ 0
   -- and nothing refused changes a buffer or the gate.
@@ -67,6 +67,10 @@ pub record WithoutRuns (g : Gate) : Type 0 where
   pub book : book-of g ≡ nothing
   pub state : state-of g ≡ newly-opened
 
+-- some book is refused with this number
+abbrev pub SomeBook : ℕ → Type 0
+SomeBook n = (s : List ℕ) × ((place : ℕ) × BookRow s n place)
+
 -- the answers of the calls for C in numbers
 abbrev pub answered-numbers : Answered → Numbers
 answered-numbers r = record { number = r .number; place = r .place; value = r .value }
@@ -79,8 +83,9 @@ opened-numbers r = record { number = r .number; place = r .place; value = 0 }
 
 -- Demand 1 of every call: by its contract, its refusals are these rows. Same is Unit where a call is lent nothing that it could write to.
 pub record Demand1 : Type 1 where
-  -- a book's refusals: document 01's "1 to 11", and each later check of the reader
+  -- the numbers of a book's refusals: document 01's "1 to 11" and each later check of the reader, and no others
   pub book-refusals : (s : List ℕ) (n place : ℕ) → BookRow s n place → In n book-numbers
+  pub each-refusal : (n : ℕ) → In n book-numbers → SomeBook n
   pub read-bytes : (s : List ℕ) (r : Reading) → ReadAs (read s) r → TurnsAway (BookRow s) (reading-numbers (outcome-of r)) (r .book ≡ empty-book)
   pub deck-read : (s : List ℕ) (r : Answered) → ReadCall s r → TurnsAway (BookRow s) (answered-numbers r) (Unit {0})
   pub judge-bytes : (s order order′ cycle cycle′ : List ℕ) (r : Judgement) → BytesJudged order order′ cycle cycle′ s r

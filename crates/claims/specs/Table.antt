@@ -1,4 +1,4 @@
--- Document 01's table, "When something is turned away", with the checks that document 02 adds: what is wrong, the number of that refusal, and its place.
+-- Document 01's table, "When something is turned away", with the checks of document 02, change 1: what is wrong, the number of that refusal, and its place.
 -- First the rows of a book, then the calls' own. 24 and 25, the replay's, and 26, the gate's on a record that is not sound, follow document 01's rule for
 -- refusals added later. proofs/Table: a book is refused with a number at a place exactly where a row here says so.
 use Prim.Native.Nat.{ℕ, suc, _+_, _≤_, _<_}
