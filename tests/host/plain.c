@@ -1,5 +1,5 @@
-/* Document 01 with document 02's changes so far in plain C. The judge works on rows of two 64-bit words; the class tests, the arc test and the evidence checks follow the
-   definitions place by place. */
+/* Document 01 with document 02's changes so far in plain C. The judge works on rows of two 64-bit words; the class tests, the arc test and the evidence
+   checks follow the definitions place by place. */
 #include "plain.h"
 #include <string.h>
 
