@@ -26,7 +26,7 @@ enum {
     DECK_BUFFER = DECK_STEPS /* the judge's buffers have at least so many bytes */
 };
 
-/* 1 to 11, 30 and 31 are the refusals of the book: any call that reads one may give them. */
+/* 1 to 11, 30 and 31 are the refusals of the book: any call that reads a book may give them. */
 enum deck_number {
     DECK_BOOK_TOO_LONG = 1, /* book over DECK_BOOK bytes */
     DECK_NO_COMMAND = 2, /* byte that is no command */
@@ -35,7 +35,7 @@ enum deck_number {
     DECK_WRONG_KIND = 5, /* kind above 15, or a above b */
     DECK_NOT_RISING = 6, /* pair or triple not above the one before */
     DECK_WRONG_RUN = 7, /* 52 not the next run; 42 or 48 a run not declared; 42 a run as seen by itself */
-    DECK_TOO_MANY_RUNS = 8, /* 17th run: the book has to be split */
+    DECK_TOO_MANY_RUNS = 8, /* 17th run; the book has to be split */
     DECK_WRONG_CUT = 9, /* cut after step 0, or not before the last step */
     DECK_NO_STEP_LEFT = 10, /* 48 for a run with no step left */
     DECK_BYTES_AFTER_END = 11, /* bytes after 45 */
@@ -48,8 +48,8 @@ enum deck_number {
     DECK_NO_CALL = 24, /* replay: no call, or a cut-off one, at an offset of the list */
     DECK_ANSWERS_SHORT = 25, /* replay: the buffer of answers under two bytes a call */
     DECK_GATE_DAMAGED = 26, /* gate: a table of the record out of range, or not in agreement with another */
-    DECK_RUN_TOO_LONG = 30, /* 33rd step of a run, be it the 129th of the book too: the run has to be split */
-    DECK_TOO_MANY_STEPS = 31, /* 129th step of the book: the book has to be split */
+    DECK_RUN_TOO_LONG = 30, /* 33rd step of a run, also where it is the 129th of the book; the run has to be split */
+    DECK_TOO_MANY_STEPS = 31, /* 129th step of the book; the book has to be split */
 };
 
 enum deck_verdict { DECK_REFUSED = 0, DECK_PASSED = 1, DECK_TANGLED = 2 };

@@ -112,7 +112,7 @@ causes! {
     WrongKind = 5, "kind above 15, or a above b";
     NotRising = 6, "pair or triple not above the one before";
     WrongRun = 7, "52 not the next run; 42 or 48 a run not declared; 42 a run as seen by itself";
-    TooManyRuns = 8, "17th run: the book has to be split";
+    TooManyRuns = 8, "17th run; the book has to be split";
     WrongCut = 9, "cut after step 0, or not before the last step";
     NoStepLeft = 10, "48 for a run with no step left";
     BytesAfterEnd = 11, "bytes after 45";
@@ -125,8 +125,8 @@ causes! {
     NoCall = 24, "replay: no call, or a cut-off one, at an offset of the list";
     AnswersShort = 25, "replay: the buffer of answers under two bytes a call";
     Damaged = 26, "gate: a table of the record out of range, or not in agreement with another";
-    RunTooLong = 30, "33rd step of a run: the run has to be split";
-    TooManySteps = 31, "129th step of the book: the book has to be split";
+    RunTooLong = 30, "33rd step of a run; the run has to be split";
+    TooManySteps = 31, "129th step of the book; the book has to be split";
 }
 
 /// What was turned away: why, and the offset at which it was found (0 where it has none).
@@ -393,7 +393,7 @@ mod tests {
         assert_eq!(read(&book("refused08")), Err(Refusal { cause: Cause::TooManyRuns, place: 32 }));
         assert_eq!(read(&book("refused30")), Err(Refusal { cause: Cause::RunTooLong, place: 130 }));
         assert_eq!(read(&book("refused31")), Err(Refusal { cause: Cause::TooManySteps, place: 522 }));
-        assert_eq!(judge(&book("refused30-both")).unwrap_err().to_string(), "refused 30 at 520: 33rd step of a run: the run has to be split");
+        assert_eq!(judge(&book("refused30-both")).unwrap_err().to_string(), "refused 30 at 520: 33rd step of a run; the run has to be split");
         assert_eq!(read(&book("longest-run")), Ok(32));
         assert_eq!(read(&book("longest-runs")), Ok(128));
     }

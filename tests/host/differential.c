@@ -12,7 +12,7 @@ enum { ROOM = DECK_BUFFER + 72 }; /* of each buffer, filled beforehand so that a
 
 static const char *fault;
 static long altered[2]; /* records: those not sound, those sound */
-static long refused[DECK_TOO_MANY_STEPS + 1]; /* books, by the number of their refusal */
+static long refused[UINT8_MAX + 1]; /* books, by the number of their refusal */
 
 static int expect(int ok, const char *what) {
     if (!ok && !fault)
@@ -315,12 +315,15 @@ static const char *compare(source *s, const uint8_t *book, size_t len) {
     return fault;
 }
 
+/* the numbers of a book's refusals */
+static const uint8_t book_numbers[] = {1, 2, 3, 4, 5, 6, 7, 8, 9, 10, 11, 30, 31};
+
 int main(void) {
     int status = test_books(20261115, BOOKS, compare);
     printf("altered records: %ld not sound, %ld sound\n", altered[0], altered[1]);
-    for (int number = DECK_BOOK_TOO_LONG; number <= DECK_TOO_MANY_STEPS; number++)
-        if (!refused[number] && (number <= DECK_BYTES_AFTER_END || number >= DECK_RUN_TOO_LONG)) {
-            printf("no book refused by %d\n", number);
+    for (size_t i = 0; i < sizeof book_numbers; i++)
+        if (!refused[book_numbers[i]]) {
+            printf("no book refused by %d\n", book_numbers[i]);
             status = 1;
         }
     return status || !altered[0] || !altered[1];

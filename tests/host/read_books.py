@@ -172,7 +172,7 @@ LATE = [("43", 0, pair(0, 2)), ("52", 1, run(2)), ("53", 1, step()), ("42", 2, c
 BOOKS += [(f"{name} after {NAMES[g]}", b"".join(GROUPS[: g + 1]) + command + END) for name, own, command in LATE for g in range(own + 1, 4)]
 BOOKS += [("53 before any 52", step() + END), ("53 before any 52, after 43", pair(0, 1) + step() + END)]
 
-# Two faults at once: the earlier test answers.
+# Several faults at once: the earliest test answers.
 FULL_RUNS = runs_of(*[0] * 16)
 FULL_STEPS = runs_of(*[8] * 16)
 BOOKS += [

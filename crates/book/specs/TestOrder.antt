@@ -24,7 +24,7 @@ index-of n (m ∷ ms) = pick (eqb m n) 0 (suc (index-of n ms))
 abbrev pub rank : ℕ → ℕ
 rank n = index-of n test-order
 
--- the numbers of these tests are in the order, and none comes before one that the order has earlier
+-- none of these tests comes before one that the order has earlier, and the last one's number is in the order; so all their numbers are
 abbrev pub InOrder : List Test → Type 0
 InOrder [] = Unit {0}
 InOrder (t ∷ []) = rank (number (t .cause)) < length test-order

@@ -1,6 +1,5 @@
 -- The demands exclude document 01's lazy programs, by its rows 2 to 5.
 use Prim.Native.Nat.{ℕ, zero, suc, _≤_, _<_}
-use native.Mathlib.Decide.{decLt}
 use native.Mathlib.Omega.{arith}
 use mathlib.Core.Path.{_≡_, refl}
 use mathlib.Core.Logic.{_⊎_, inl, inr, _≢_}
@@ -9,7 +8,6 @@ use lib.ListN.{length, take}
 use Rattle.theory.specs.Relative.{RelativelySerial, RelativelySerializable}
 use Rattle.theory.specs.Graph.{Cycle}
 use Rattle.theory.specs.Rows.{rows}
-use Rattle.theory.proofs.Finite.{dec-both, by-yes}
 use Rattle.theory.proofs.Within.{prefix-serializable}
 use Rattle.theory.proofs.Rows.{twelve-rows}
 use Rattle.book.specs.Format.{Bytes, Contents, accepted, Allowed, operand-tests, obey, end-at, command-at, read-from, read-commands, read-by, read}
@@ -22,27 +20,13 @@ use Rattle.gate.specs.Plain.{step, Answer, place, refused, State, newly-opened,
 use Rattle.gate.specs.Demand.{At, here, there, Moment}
 use Rattle.claims.specs.Demands.{Demand2}
 use Rattle.claims.specs.Lazy.{book-2, judged-tangled, unwritten, LazyProgramsCaught}
+use Rattle.claims.proofs.Bytes.{bytes}
 
 -- ---- the books
 
--- each number of the list is a byte, in a form that a computation decides
-abbrev AllBytes : List ℕ → Type 0
-AllBytes [] = Unit {0}
-AllBytes (x ∷ l) = (x < 256) × AllBytes l
-
-dec-bytes : (l : List ℕ) → Dec (AllBytes l)
-dec-bytes [] = yes tt
-dec-bytes (x ∷ l) = dec-both (decLt x 256) (dec-bytes l)
-
-all-bytes : (l : List ℕ) → AllBytes l → Bytes l
-all-bytes [] b i = omega arith
-all-bytes (x ∷ l) b zero = b .0
-all-bytes (x ∷ l) b (suc i) = all-bytes l (b .1) i
-
 -- the runs without a history, by computation
 runs-bytes : Bytes (render (book-2 []))
-unfolding decLt dec-both dec-bytes
-runs-bytes = all-bytes (render (book-2 [])) (by-yes (dec-bytes (render (book-2 []))) tt)
+runs-bytes = bytes (render (book-2 [])) refl
 
 runs-read : read (render (book-2 [])) ≡ accepted (book-2 [])
 unfolding operand-tests obey end-at command-at read-from read-commands read-by

@@ -40,7 +40,7 @@ broken-rank {t} o (at-once e) = le-refl _
 broken-rank o (later (at-once e)) = o .0
 broken-rank o (later (later b)) = le-trans (o .0) (broken-rank (o .1) (later b))
 
--- each number stands in the order
+-- the number of each test stands in the order: the first's, then that of any that fails
 first-ranked : (t : Test) (ts : List Test) → InOrder (t ∷ ts) → rank (number (t .cause)) < length test-order
 first-ranked t [] o = o
 first-ranked t (u ∷ us) o = omega (arith, o .0, first-ranked u us (o .1))
@@ -417,7 +417,7 @@ row-refused s n place (at-command {at} {t} {c} short r h k f early) =
 row-refused s n place (after-45 {at} {t} short r b l) =
     (BytesAfterEnd, (refused-there BytesAfterEnd (at + 1) short r (end-there s at t (omega arith) b ∙ rw (lt-leb (length s) (at + 1) l)), refl))
 
--- ---- a row's number is one of a book's refusals
+-- ---- each row's number is one of `book-numbers`
 
 within : (n m : ℕ) (ns ks : List ℕ) → In n ns → In n (m ∷ ns ++ ks)
 within n m ns ks h = omega (arith, count-append (m ∷ []) (ns ++ ks) n, count-append ns ks n)

@@ -43,7 +43,7 @@ use Rattle.claims.specs.Table.{BookRow, NoRow, JudgeRow, WriterRow, Gate
 -- Demand 1, of a call that answers the numbers n, where the rows R of the documents' table (Table) are its refusals, and Same says that every lent byte
 -- and the record are as at entry; of a book or a gate that a call hands back, that it is the one without runs, and of a replay's gate, that it is as opened.
 pub record TurnsAway (R : ℕ → ℕ → Type 0) (n : Numbers) (Same : Type 0) : Type 0 where
-  -- Each refusal has the number and place in document 01, which takes in document 02,
+  -- Each refusal has the number and place in document 01, with document 02's changes so far,
   pub row : n .number ≢ 0 → R (n .number) (n .place)
   pub no-value : n .number ≢ 0 → n .value ≡ 0
   -- and nothing refused changes a buffer or the gate.
@@ -68,8 +68,11 @@ pub record WithoutRuns (g : Gate) : Type 0 where
   pub state : state-of g ≡ newly-opened
 
 -- some book is refused with this number
-abbrev pub SomeBook : ℕ → Type 0
-SomeBook n = (s : List ℕ) × ((place : ℕ) × BookRow s n place)
+pub record SomeBook (n : ℕ) : Type 0 where
+  pub book : List ℕ
+  pub bytes : Bytes book
+  pub place : ℕ
+  pub row : BookRow book n place
 
 -- the answers of the calls for C in numbers
 abbrev pub answered-numbers : Answered → Numbers
