@@ -13,6 +13,7 @@ abbrev first-with : ℕ → List Cause → Cause
 first-with n [] = BookTooLong
 first-with n (c ∷ cs) = pick (eqb (number c) n) c (first-with n cs)
 
+-- the cause that has the number n
 pub cause-of : ℕ → Cause
 cause-of n =
     first-with
