@@ -9,11 +9,10 @@ use judge::Judgement;
 use judge::Verdict;
 use writer::Written;
 ghost use mathlib.Core.Path.{_≡_};
-ghost use Rattle.theory.specs.History.{Serial};
-ghost use Rattle.theory.specs.Relative.{RelativelyAtomic, RelativelySerial, ConflictSerializable, RelativelySerialOrder};
+ghost use Rattle.theory.specs.Relative.{RelativelySerialOrder};
 ghost use Rattle.theory.specs.Graph.{Cycle, Arc};
 ghost use Rattle.book.specs.Numbers.{refused-with, value-of};
-ghost use Rattle.book.specs.Meaning.{conflict-of, unit-of};
+ghost use Rattle.book.specs.Meaning.{conflict-of, unit-of, SerialHistory, RelativelyAtomicHistory, RelativelySerialHistory, ConflictSerializableHistory};
 ghost use Rattle.gate.specs.Plain.{step as step-call, withdraw as withdraw-call};
 ghost use Rattle.classes.specs.Tested.{tested-numbers};
 ghost use Rattle.writer.specs.Written.{written-numbers};
@@ -158,7 +157,7 @@ pub extern "C" fn deck_judge(s: &[u8], order: &mut [u8], cycle: &mut [u8]) -> Ju
 
 #[no_mangle]
 pub extern "C" fn deck_serial(s: &[u8]) -> Answered
-    ensures { λ r. ⌜ TestCall (λ c. Serial (c .history)) (now (s .entry)) r ⌝ }
+    ensures { λ r. ⌜ TestCall SerialHistory (now (s .entry)) r ⌝ }
 {
     let tested = classes::serial(s);
     of_tested(tested)
@@ -166,7 +165,7 @@ pub extern "C" fn deck_serial(s: &[u8]) -> Answered
 
 #[no_mangle]
 pub extern "C" fn deck_atomic(s: &[u8]) -> Answered
-    ensures { λ r. ⌜ TestCall (λ c. RelativelyAtomic (unit-of c) (c .history)) (now (s .entry)) r ⌝ }
+    ensures { λ r. ⌜ TestCall RelativelyAtomicHistory (now (s .entry)) r ⌝ }
 {
     let tested = classes::relatively_atomic(s);
     of_tested(tested)
@@ -174,7 +173,7 @@ pub extern "C" fn deck_atomic(s: &[u8]) -> Answered
 
 #[no_mangle]
 pub extern "C" fn deck_relserial(s: &[u8]) -> Answered
-    ensures { λ r. ⌜ TestCall (λ c. RelativelySerial (conflict-of c) (unit-of c) (c .history)) (now (s .entry)) r ⌝ }
+    ensures { λ r. ⌜ TestCall RelativelySerialHistory (now (s .entry)) r ⌝ }
 {
     let tested = classes::relatively_serial(s);
     of_tested(tested)
@@ -182,7 +181,7 @@ pub extern "C" fn deck_relserial(s: &[u8]) -> Answered
 
 #[no_mangle]
 pub extern "C" fn deck_conflict(s: &[u8]) -> Answered
-    ensures { λ r. ⌜ TestCall (λ c. ConflictSerializable (conflict-of c) (c .history)) (now (s .entry)) r ⌝ }
+    ensures { λ r. ⌜ TestCall ConflictSerializableHistory (now (s .entry)) r ⌝ }
 {
     let tested = classes::conflict_serializable(s);
     of_tested(tested)

@@ -9,9 +9,8 @@ ghost use Prim.Native.Nat.{_<_};
 ghost use mathlib.Core.Path.{_≡_};
 ghost use lib.ListN.{take};
 ghost use Rattle.theory.specs.History.{Serial};
-ghost use Rattle.theory.specs.Relative.{ConflictSerializable, RelativelyAtomic, RelativelySerial};
 ghost use Rattle.book.specs.Book.{Valid, contents-of};
-ghost use Rattle.book.specs.Meaning.{conflict-of, unit-of};
+ghost use Rattle.book.specs.Meaning.{SerialHistory, RelativelyAtomicHistory, RelativelySerialHistory, ConflictSerializableHistory};
 ghost use Rattle.theory.specs.Answers.{Answers};
 ghost use Rattle.graph.specs.inner.Tables.{HistoryOf};
 ghost use Rattle.graph.specs.inner.Arcs.{Rowed};
@@ -149,7 +148,7 @@ fn relatively_serial_by(
 // Whether a valid book's history is serial.
 pub fn is_serial(b: Book) -> bool
     requires { ⌜ Valid b ⌝ }
-    ensures { λ r. ⌜ Answers (Serial (contents-of b .history)) r ⌝ }
+    ensures { λ r. ⌜ Answers (SerialHistory (contents-of b)) r ⌝ }
 {
     let history = b.history;
     stands_together(&history, b.done)
@@ -158,7 +157,7 @@ pub fn is_serial(b: Book) -> bool
 // Whether a valid book's history is relatively atomic.
 pub fn is_relatively_atomic(b: Book) -> bool
     requires { ⌜ Valid b ⌝ }
-    ensures { λ r. ⌜ Answers (RelativelyAtomic (unit-of (contents-of b)) (contents-of b .history)) r ⌝ }
+    ensures { λ r. ⌜ Answers (RelativelyAtomicHistory (contents-of b)) r ⌝ }
 {
     let mut firsts: Units = [0; graph::UNITS_SIZE];
     let mut lasts: Units = [0; graph::UNITS_SIZE];
@@ -170,7 +169,7 @@ pub fn is_relatively_atomic(b: Book) -> bool
 // Whether a valid book's history is relatively serial.
 pub fn is_relatively_serial(b: Book) -> bool
     requires { ⌜ Valid b ⌝ }
-    ensures { λ r. ⌜ Answers (RelativelySerial (conflict-of (contents-of b)) (unit-of (contents-of b)) (contents-of b .history)) r ⌝ }
+    ensures { λ r. ⌜ Answers (RelativelySerialHistory (contents-of b)) r ⌝ }
 {
     let mut dep: Table = [0; bits::TABLE_WORDS];
     graph::dependences(b, &mut dep);
@@ -193,7 +192,7 @@ fn without_cuts(b: Book) -> Book
 // Whether a valid book's history is conflict serializable: the judge passes it without its cuts.
 pub fn is_conflict_serializable(b: Book) -> bool
     requires { ⌜ Valid b ⌝ }
-    ensures { λ r. ⌜ Answers (ConflictSerializable (conflict-of (contents-of b)) (contents-of b .history)) r ⌝ }
+    ensures { λ r. ⌜ Answers (ConflictSerializableHistory (contents-of b)) r ⌝ }
 {
     judge::passes(without_cuts(b))
 }
@@ -210,7 +209,7 @@ pub fn tested_by(answer: Answer, yes: bool) -> Tested
 
 // Whether the history of the book is serial.
 pub fn serial(s: &[u8]) -> Tested
-    ensures { λ r. ⌜ TestedAs (λ c. Serial (c .history)) (now (s .entry)) r ⌝ }
+    ensures { λ r. ⌜ TestedAs SerialHistory (now (s .entry)) r ⌝ }
 {
     let reading = reader::read(s);
     let answer = reading.answer;
@@ -219,7 +218,7 @@ pub fn serial(s: &[u8]) -> Tested
 
 // Whether the history of the book is relatively atomic.
 pub fn relatively_atomic(s: &[u8]) -> Tested
-    ensures { λ r. ⌜ TestedAs (λ c. RelativelyAtomic (unit-of c) (c .history)) (now (s .entry)) r ⌝ }
+    ensures { λ r. ⌜ TestedAs RelativelyAtomicHistory (now (s .entry)) r ⌝ }
 {
     let reading = reader::read(s);
     let answer = reading.answer;
@@ -228,7 +227,7 @@ pub fn relatively_atomic(s: &[u8]) -> Tested
 
 // Whether the history of the book is relatively serial.
 pub fn relatively_serial(s: &[u8]) -> Tested
-    ensures { λ r. ⌜ TestedAs (λ c. RelativelySerial (conflict-of c) (unit-of c) (c .history)) (now (s .entry)) r ⌝ }
+    ensures { λ r. ⌜ TestedAs RelativelySerialHistory (now (s .entry)) r ⌝ }
 {
     let reading = reader::read(s);
     let answer = reading.answer;
@@ -237,7 +236,7 @@ pub fn relatively_serial(s: &[u8]) -> Tested
 
 // Whether the history of the book is conflict serializable.
 pub fn conflict_serializable(s: &[u8]) -> Tested
-    ensures { λ r. ⌜ TestedAs (λ c. ConflictSerializable (conflict-of c) (c .history)) (now (s .entry)) r ⌝ }
+    ensures { λ r. ⌜ TestedAs ConflictSerializableHistory (now (s .entry)) r ⌝ }
 {
     let reading = reader::read(s);
     let answer = reading.answer;

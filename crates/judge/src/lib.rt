@@ -8,10 +8,9 @@ use book::Cause;
 ghost use mathlib.Core.Path.{_≡_};
 ghost use Prim.Native.Nat.{_<_, _≤_};
 ghost use lib.ListN.{length, take};
-ghost use Rattle.theory.specs.Relative.{RelativelySerializable};
 ghost use Rattle.bits.specs.Table.{row-bits};
 ghost use Rattle.book.specs.Format.{step-limit};
-ghost use Rattle.book.specs.Meaning.{conflict-of, unit-of};
+ghost use Rattle.book.specs.Meaning.{conflict-of, unit-of, RelativelySerializableHistory};
 ghost use Rattle.book.specs.Book.{contents-of, Valid};
 ghost use Rattle.theory.specs.Answers.{Answers};
 ghost use Rattle.graph.specs.inner.Tables.{HistoryOf};
@@ -195,7 +194,7 @@ pub fn judge_book(b: Book, order: &mut [u8], cycle: &mut [u8]) -> Judgement
 // Whether the judge passes a valid book's history, without evidence: whether the turns take every place.
 pub fn passes(b: Book) -> bool
     requires { ⌜ Valid b ⌝ }
-    ensures { λ r. ⌜ Answers (RelativelySerializable (conflict-of (contents-of b)) (unit-of (contents-of b)) (contents-of b .history)) r ⌝ }
+    ensures { λ r. ⌜ Answers (RelativelySerializableHistory (contents-of b)) r ⌝ }
 {
     let mut arc = [0u64; bits::TABLE_WORDS];
     graph::arcs(b, &mut arc);

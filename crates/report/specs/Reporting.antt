@@ -4,14 +4,13 @@ use mathlib.Core.Path.{_≡_}
 use mathlib.Core.Bool.{Bool}
 use mathlib.Core.List.{List}
 use lib.ListN.{length}
-use Rattle.theory.specs.History.{Serial}
-use Rattle.theory.specs.Relative.{RelativelyAtomic, RelativelySerial, ConflictSerializable, RelativelySerializable, RelativelySerialOrder}
+use Rattle.theory.specs.Relative.{RelativelySerialOrder}
 use Rattle.theory.specs.Graph.{Cycle, Greedy}
 use Rattle.theory.specs.Rows.{Is}
 use Rattle.buffer.specs.Put.{Put}
 use Rattle.book.specs.Format.{Contents, Outcome, refused, accepted}
 use Rattle.book.specs.Numbers.{number}
-use Rattle.book.specs.Meaning.{conflict-of, unit-of}
+use Rattle.book.specs.Meaning.{conflict-of, unit-of, SerialHistory, RelativelyAtomicHistory, RelativelySerialHistory, ConflictSerializableHistory, RelativelySerializableHistory}
 use Rattle.report.specs.Text.{Verdict, passed, tangled, Findings, Report, refused-at, accepted-with, text-of}
 
 -- ---- what is said of a book
@@ -20,14 +19,14 @@ use Rattle.report.specs.Text.{Verdict, passed, tangled, Findings, Report
 -- There is one such order (theory's `greedy-unique`)
 abbrev pub VerdictOn : Contents → Verdict → Type 0
 VerdictOn c (passed order) = RelativelySerialOrder (conflict-of c) (unit-of c) (c .history) order × Greedy (conflict-of c) (unit-of c) (c .history) order
-VerdictOn c (tangled cycle) = (¬ RelativelySerializable (conflict-of c) (unit-of c) (c .history)) × Cycle (conflict-of c) (unit-of c) (c .history) cycle
+VerdictOn c (tangled cycle) = (¬ RelativelySerializableHistory c) × Cycle (conflict-of c) (unit-of c) (c .history) cycle
 
 -- the four classes of an accepted book; `Is b P` says that P holds exactly where b is true
 pub record ClassesOn (c : Contents) (serial atomic relserial conflict : Bool) : Type 0 where
-  pub serial-is : Is serial (Serial (c .history))
-  pub atomic-is : Is atomic (RelativelyAtomic (unit-of c) (c .history))
-  pub relserial-is : Is relserial (RelativelySerial (conflict-of c) (unit-of c) (c .history))
-  pub conflict-is : Is conflict (ConflictSerializable (conflict-of c) (c .history))
+  pub serial-is : Is serial (SerialHistory c)
+  pub atomic-is : Is atomic (RelativelyAtomicHistory c)
+  pub relserial-is : Is relserial (RelativelySerialHistory c)
+  pub conflict-is : Is conflict (ConflictSerializableHistory c)
 
 pub record FindingsOn (c : Contents) (w : Findings) : Type 0 where
   pub done-is : w .done ≡ length (c .history)
