@@ -165,7 +165,15 @@ size_t damage(source *s, uint8_t *book, size_t len) {
     return len;
 }
 
-int test_books(uint64_t seed, long books, const char *(*test)(source *s, const uint8_t *book, size_t len)) {
+static const char *fault; /* the first thing that was not ok of the book at hand, or null */
+
+int expect(int ok, const char *what) {
+    if (!ok && !fault)
+        fault = what;
+    return ok;
+}
+
+int test_books(uint64_t seed, long books, void (*test)(source *s, const uint8_t *book, size_t len)) {
     static uint8_t book[BOOK_ROOM];
     source s = {seed};
     long failed = 0;
@@ -174,7 +182,8 @@ int test_books(uint64_t seed, long books, const char *(*test)(source *s, const u
         size_t len = k % 50 ? make_book(&s, &f, book) : make_long_book(&s, book);
         if (k % 2)
             len = damage(&s, book, len);
-        const char *fault = test(&s, book, len);
+        fault = NULL;
+        test(&s, book, len);
         failed += fault != NULL;
         if (fault)
             printf("book %ld: %s\n", k, fault);

@@ -38,8 +38,11 @@ shape draw_shape(source *s);
 /* The new length of a book with one or more bytes changed, left out or put in. */
 size_t damage(source *s, uint8_t *book, size_t len);
 
-/* Makes the test on so many books from a seed, whole, damaged and over the limits. The test answers null, or what is wrong. Prints what was wrong and
-   'N passed, M failed', a count of books; the status of a program. */
-int test_books(uint64_t seed, long books, const char *(*test)(source *s, const uint8_t *book, size_t len));
+/* One thing that a test expects of the book at hand, and what it is: the book fails where it is not ok. Answers ok. */
+int expect(int ok, const char *what);
+
+/* Makes the test on so many books from a seed, whole, damaged and over the limits. Prints the first thing that was not ok of each book that failed,
+   and 'N passed, M failed', a count of books; the status of a program. */
+int test_books(uint64_t seed, long books, void (*test)(source *s, const uint8_t *book, size_t len));
 
 #endif

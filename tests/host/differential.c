@@ -10,15 +10,8 @@ enum { BOOKS = 6000 };
 enum { CALLS = 200 }; /* in a list, at most */
 enum { ROOM = DECK_BUFFER + 72 }; /* of each buffer, filled beforehand so that a stray byte shows */
 
-static const char *fault;
 static long altered[2]; /* records: those not sound, those sound */
 static long refused[UINT8_MAX + 1]; /* books, by the number of their refusal */
-
-static int expect(int ok, const char *what) {
-    if (!ok && !fault)
-        fault = what;
-    return ok;
-}
 
 static int untouched(const uint8_t *buffer, size_t from, size_t len, uint8_t fill) {
     for (size_t i = from; i < len; i++)
@@ -281,11 +274,10 @@ static void compare_gate(source *s, const uint8_t *book, size_t len, const plain
     }
 }
 
-static const char *compare(source *s, const uint8_t *book, size_t len) {
+static void compare(source *s, const uint8_t *book, size_t len) {
     plain_book b;
     uint8_t found[DECK_STEPS], list[ROOM];
     int count, passed;
-    fault = NULL;
     plain_refusal r = plain_read(book, len, &b);
     refused[r.number]++;
     compare_answer(deck_read(book, len), r, b.n, "reader");
@@ -312,7 +304,6 @@ static const char *compare(source *s, const uint8_t *book, size_t len) {
     compare_gate(s, book, len, &b, r);
     if (r.number)
         compare_refused_gate(book, len, r);
-    return fault;
 }
 
 /* the numbers of a book's refusals */

@@ -70,10 +70,10 @@ static int right(const char *text, const uint8_t *book, size_t len) {
     return numbers(text, "cycle", list, &n) && plain_cycle_check(&b, list, n);
 }
 
-static const char *compare(source *s, const uint8_t *book, size_t len) {
+static void compare(source *s, const uint8_t *book, size_t len) {
     static char text[TEXT];
     (void)s;
-    return run(book, len, text) && right(text, book, len) ? NULL : "wrong text";
+    expect(run(book, len, text) && right(text, book, len), "the program's text");
 }
 
 int main(int argc, char **argv) {
