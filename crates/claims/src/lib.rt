@@ -1,2 +1,2 @@
-// The documents' table of refusals, demands 1 and 2, that promises fix results, what the demands exclude; demand 3 (gate) and the twelve rows (theory) too
-// are proved here. This crate has no code; `demands` has the demands as contracts.
+// The documents' table of refusals, demands 1 and 2, that promises fix results, what the demands exclude, that the classes are nested; demand 3 (gate) and the
+// twelve rows (theory) too are proved here. This crate has no code; `demands` has the demands and the nested classes as contracts.

@@ -1,2 +1,2 @@
--- Results: the demands of what the functions of this crate return.
+-- Results: the demands, and that the classes are nested, of what the functions of this crate return.
 pub mod Results

@@ -1,12 +1,15 @@
--- The demands, of what the functions of this crate return: the results of the public calls.
+-- The demands, and that the classes are nested, of what the functions of this crate return: the results of the public calls.
 use Prim.Native.Nat.{ℕ, _*_, _≤_}
 use mathlib.Core.Path.{_≡_}
 use mathlib.Core.List.{List}
 use lib.ListN.{length, take}
 use Rattle.buffer.specs.Put.{Put}
-use Rattle.book.specs.Format.{Contents, accepted, step-limit, read}
+use Rattle.book.specs.Format.{Contents, Outcome, accepted, step-limit, read}
+use Rattle.classes.specs.declared.Tested.the-variants.{Yes}
+use Rattle.judge.specs.Judge.{OutcomeJudged}
 use Rattle.judge.specs.declared.Judgement.{Judgement}
-use Rattle.gate.specs.Plain.{Call, step, withdraw}
+use Rattle.judge.specs.declared.Verdict.the-variants.{Passed}
+use Rattle.gate.specs.Plain.{step, withdraw}
 use Rattle.gate.specs.Gate.{state-of}
 use Rattle.gate.specs.Demand.{Demand3}
 use Rattle.gate.specs.Replay.{calls-of, answers-in}
@@ -18,8 +21,10 @@ use Rattle.capi.specs.declared.Answered.{Answered}
 use Rattle.capi.specs.declared.Judged.{Judged}
 use Rattle.claims.specs.Table.{BookRow, NoRow, JudgeRow, WriterRow, GateRow, ReplayRow}
 use Rattle.claims.specs.Demands.{TurnsAway, BuffersUnchanged, WithoutRuns, answered-numbers, judged-numbers, opened-numbers, Demand2}
+use Rattle.claims.specs.Classes.{Nested, OtherCuts, LongBuffers, Judges, ClassesAsked, DeckJudges, SaysYes, SaysPassed}
 use Rattle.demands.specs.declared.BookAnswers.{BookAnswers}
-use Rattle.demands.specs.declared.DeckCalled.{DeckCalled}
+use Rattle.demands.specs.declared.ClassAnswers.{ClassAnswers}
+use Rattle.demands.specs.declared.DeckClassAnswers.{DeckClassAnswers}
 use Rattle.demands.specs.declared.GateAnswers.{GateAnswers}
 
 -- the book's rows are this answer's refusals
@@ -67,3 +72,19 @@ pub record Demand3Of (s calls answers answers′ : List ℕ) (r : Replayed) : Ty
   pub all-made : (c : Contents) → read s ≡ accepted c → ((n place : ℕ) → ¬ ReplayRow s calls answers n place) → r .played ≡ Done (length (calls-of calls))
   pub holds : (c : Contents) → read s ≡ accepted c → ((n place : ℕ) → ¬ ReplayRow s calls answers n place)
       → Demand3 s c (calls-of calls) (answers-in (take (2 * length (calls-of calls)) answers′)) (state-of (r .gate))
+
+-- the judge's answer to a book that was read with this outcome, in buffers as long as the judge asks
+abbrev pub OutcomeAnswered : Outcome → Judgement → Type 0
+OutcomeAnswered o j = LongBuffers (λ order order′ cycle cycle′. OutcomeJudged order order′ cycle cycle′ o j)
+
+-- document 02, change 2, of the answers to one book: each is as its call promises, and the classes are nested, under any cuts
+pub record NestedAnswers (s : List ℕ) (r : ClassAnswers) : Type 0 where
+  pub asked : ClassesAsked s (r .serial) (r .atomic) (r .relserial) (r .conflict) (r .judgement)
+  pub nested : Nested (r .serial ≡ Yes) (r .atomic ≡ Yes) (r .relserial ≡ Yes) (r .conflict ≡ Yes) (r .judgement .verdict ≡ Passed)
+  pub any-cuts : (s′ : List ℕ) → OtherCuts s s′ → (j : Judgement) → Judges s′ j → r .conflict ≡ Yes → j .verdict ≡ Passed
+
+-- the same of the calls for C
+pub record NestedDeckAnswers (s order cycle : List ℕ) (r : DeckClassAnswers) : Type 0 where
+  pub nested : step-limit ≤ length order → step-limit ≤ length cycle
+      → Nested (SaysYes (r .serial)) (SaysYes (r .atomic)) (SaysYes (r .relserial)) (SaysYes (r .conflict)) (SaysPassed (r .judged))
+  pub any-cuts : (s′ : List ℕ) → OtherCuts s s′ → (j : Judged) → DeckJudges s′ j → SaysYes (r .conflict) → SaysPassed j

@@ -1,14 +1,20 @@
-// The demands as contracts: `demand_1`, `demand_2` and `demand_3` make the public calls and ensure the demand of what they return. `claims` states the demands
-// and proves them of whatever meets the calls' contracts.
+// The demands as contracts: `demand_1`, `demand_2` and `demand_3` make the public calls and ensure the demand of what they return; `nested_classes` and
+// `nested_deck_classes` ask for the classes of a book and ensure that they are nested. `claims` states the demands and the nested classes, and proves them
+// of whatever meets the calls' contracts.
+use book::Answer;
+use book::Book;
 use capi::Answered;
 use capi::Judged;
 use capi::OpenedGate;
+use classes::Tested;
 use gate::Gate;
 use gate::Replayed;
 use judge::Judgement;
+use judge::Verdict;
+ghost use Rattle.book.specs.Book.{Valid, outcome-by};
 ghost use Rattle.gate.specs.Plain.{step as step-call, withdraw as withdraw-call};
 ghost use Rattle.capi.specs.Calls.{GateCall};
-ghost use Rattle.demands.specs.Results.{BookRefusals, JudgeRefusals, WriteRefusals, ReplayRefusals, TextRefusals, GateRefusals, Demand2Of, Demand3Of};
+ghost use Rattle.demands.specs.Results.{BookRefusals, JudgeRefusals, WriteRefusals, ReplayRefusals, TextRefusals, GateRefusals, Demand2Of, Demand3Of, OutcomeAnswered, NestedAnswers, NestedDeckAnswers};
 
 // What the calls that read a book and change nothing return.
 pub struct BookAnswers {
@@ -178,4 +184,77 @@ pub fn demand_3(s: &[u8], calls: &[u8], answers: &mut [u8]) -> Replayed
     ensures { λ r. ⌜ Demand3Of (now (s .entry)) (now (calls .entry)) (now (answers .entry)) (now (answers .exit)) r ⌝ }
 {
     gate::replay(s, calls, answers)
+}
+
+// What the four class tests and the judge answer to one book.
+pub struct ClassAnswers {
+    pub serial: Tested,
+    pub atomic: Tested,
+    pub relserial: Tested,
+    pub conflict: Tested,
+    pub judgement: Judgement,
+}
+
+// The judge's answer to a book that was read: the reader's refusal, or the judgement on its history.
+fn judgement_by(answer: Answer, b: Book) -> Judgement
+    requires { ⌜ Valid b ⌝ }
+    ensures { λ r. ⌜ OutcomeAnswered (outcome-by answer b) r ⌝ }
+{
+    let mut order = [0u8; Book::STEPS];
+    let mut cycle = [0u8; Book::STEPS];
+    match answer {
+        Answer::Refused(cause, place) => Judgement {
+            verdict: Verdict::Refused(cause, place),
+            count: 0,
+        },
+        Answer::Accepted => judge::judge_book(b, &mut order, &mut cycle),
+    }
+}
+
+// The five classes of one book, which is read once.
+pub fn nested_classes(s: &[u8]) -> ClassAnswers
+    ensures { λ r. ⌜ NestedAnswers (now (s .entry)) r ⌝ }
+{
+    let reading = reader::read(s);
+    let answer = reading.answer;
+    let b = reading.book;
+    let serial = classes::tested_by(answer, classes::is_serial(b));
+    let atomic = classes::tested_by(answer, classes::is_relatively_atomic(b));
+    let relserial = classes::tested_by(answer, classes::is_relatively_serial(b));
+    let conflict = classes::tested_by(answer, classes::is_conflict_serializable(b));
+    let judgement = judgement_by(answer, b);
+    ClassAnswers {
+        serial,
+        atomic,
+        relserial,
+        conflict,
+        judgement,
+    }
+}
+
+// What the four class tests and the judge for C answer to one book.
+pub struct DeckClassAnswers {
+    pub serial: Answered,
+    pub atomic: Answered,
+    pub relserial: Answered,
+    pub conflict: Answered,
+    pub judged: Judged,
+}
+
+// The five classes of one book, by the calls for C.
+pub fn nested_deck_classes(s: &[u8], order: &mut [u8], cycle: &mut [u8]) -> DeckClassAnswers
+    ensures { λ r. ⌜ NestedDeckAnswers (now (s .entry)) (now (order .entry)) (now (cycle .entry)) r ⌝ }
+{
+    let serial = capi::deck_serial(s);
+    let atomic = capi::deck_atomic(s);
+    let relserial = capi::deck_relserial(s);
+    let conflict = capi::deck_conflict(s);
+    let judged = capi::deck_judge(s, order, cycle);
+    DeckClassAnswers {
+        serial,
+        atomic,
+        relserial,
+        conflict,
+        judged,
+    }
 }

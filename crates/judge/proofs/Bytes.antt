@@ -36,7 +36,7 @@ short-cycle s order cycle r e h = record { short = λ _. refused-as order cycle 
 module _ (s : List ℕ) (d : Reading) (w : ReadAs (read s) d) (order order′ cycle cycle′ : List ℕ) (long-order : step-limit ≤ length order)
     (long-cycle : step-limit ≤ length cycle) where
   -- the judgement of the bytes is that of their reading
-  by-reading : (a : Answer) → d .answer ≡ a → (r : Judgement) → OutcomeJudged order order′ cycle cycle′ (outcome-by a (d .book)) r
+  pub by-reading : (a : Answer) → d .answer ≡ a → (r : Judgement) → OutcomeJudged order order′ cycle cycle′ (outcome-by a (d .book)) r
       → BytesJudged order order′ cycle cycle′ s r
   by-reading a e r j = record {
     short = ⊎-elim (λ h. not-both h long-order) (λ h. not-both h long-cycle);
