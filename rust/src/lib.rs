@@ -181,22 +181,22 @@ pub fn judge(book: &[u8]) -> Result<Verdict, Refusal> {
     }
 }
 
-/// Whether each run's done steps stand together.
+/// Whether each run's done steps stand together. Such a history is relatively atomic and conflict serializable too.
 pub fn serial(book: &[u8]) -> Result<bool, Refusal> {
     decided(unsafe { deck_serial(book.as_ptr(), book.len()) })
 }
 
-/// Whether the history is relatively atomic.
+/// Whether the history is relatively atomic. Such a one is relatively serial too.
 pub fn relatively_atomic(book: &[u8]) -> Result<bool, Refusal> {
     decided(unsafe { deck_atomic(book.as_ptr(), book.len()) })
 }
 
-/// Whether the history is relatively serial.
+/// Whether the history is relatively serial. Such a one is passed by the judge.
 pub fn relatively_serial(book: &[u8]) -> Result<bool, Refusal> {
     decided(unsafe { deck_relserial(book.as_ptr(), book.len()) })
 }
 
-/// Whether the history is conflict serializable.
+/// Whether the history is conflict serializable. Such a one is passed by the judge, whatever the book's cuts.
 pub fn conflict_serializable(book: &[u8]) -> Result<bool, Refusal> {
     decided(unsafe { deck_conflict(book.as_ptr(), book.len()) })
 }
