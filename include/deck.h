@@ -75,8 +75,8 @@ deck_answer deck_read(const uint8_t *book, size_t book_len);
 deck_judgement deck_judge(const uint8_t *book, size_t book_len, uint8_t *order, size_t order_len, uint8_t *cycle, size_t cycle_len);
 
 /* Class tests: 1 if the book's history is in the class, else 0. The classes are nested: where deck_serial answers 1, so do deck_atomic and
-   deck_conflict; where deck_atomic does, so does deck_relserial; where deck_relserial or deck_conflict does, deck_judge says passed. Where deck_conflict
-   does, deck_judge also says passed of every book that differs from this one in its cuts alone. */
+   deck_conflict; where deck_atomic does, so does deck_relserial; where deck_relserial or deck_conflict does, deck_judge, with buffers as long as it
+   asks, says passed. Where deck_conflict does, it also says so of every book that differs from this one in its cuts alone. */
 deck_answer deck_serial(const uint8_t *book, size_t book_len);
 deck_answer deck_atomic(const uint8_t *book, size_t book_len);
 deck_answer deck_relserial(const uint8_t *book, size_t book_len);

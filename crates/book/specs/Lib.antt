@@ -1,6 +1,6 @@
 -- Format: the format of a deck book. Render: the bytes of a book's contents. Numbers: the numbers of refusals. TestOrder: the order of the tests.
--- Meaning: conflict and unit of a book. Book: what a `Book` means, and what the reader promises. inner: what the functions inside promise one
--- another, no part of a statement.
+-- Meaning: conflict and unit of a book, and the classes of its history. Book: what a `Book` means, and what the reader promises. inner: what the functions
+-- inside promise one another, no part of a statement.
 pub mod Format
 pub mod Render
 pub mod Numbers

@@ -13,7 +13,7 @@ conflict-of c = conflict (c .pairs) (c .runs)
 abbrev pub unit-of : Contents → ℕ → ℕ → ℕ → ℕ
 unit-of c = unit (c .cuts)
 
--- the classes: what each class test asks of a book, and what the judge asks
+-- the classes: what each class test asks of a book's history
 abbrev pub SerialHistory : Contents → Type 0
 SerialHistory c = Serial (c .history)
 
@@ -26,5 +26,6 @@ RelativelySerialHistory c = RelativelySerial (conflict-of c) (unit-of c) (c .his
 abbrev pub ConflictSerializableHistory : Contents → Type 0
 ConflictSerializableHistory c = ConflictSerializable (conflict-of c) (c .history)
 
+-- and what the judge asks of it: passed, in document 01's word
 abbrev pub RelativelySerializableHistory : Contents → Type 0
 RelativelySerializableHistory c = RelativelySerializable (conflict-of c) (unit-of c) (c .history)

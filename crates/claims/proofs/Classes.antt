@@ -30,8 +30,9 @@ use Rattle.capi.specs.Calls.{TestCall}
 use Rattle.capi.specs.declared.Answered.{Answered}
 use Rattle.capi.specs.declared.Judged.{Judged}
 use Rattle.claims.specs.Demands.{answered-numbers, judged-numbers}
-use Rattle.claims.specs.Classes.{Nested, OtherCuts, Judges, DeckJudges, SaysYes, SaysPassed, TellsPassed, row-contents, row-bytes, RowPassed, ClassesNested}
+use Rattle.claims.specs.Classes.{Nested, OtherCuts, JudgeAnswers, DeckJudgeAnswers, SaysYes, SaysPassed, TextSaysPassed, row-contents, row-bytes, RowPassed, ClassesNested}
 use Rattle.claims.proofs.Bytes.{all-bytes, bytes}
+use Rattle.claims.proofs.Determined.{all-determined}
 
 -- the bytes are those of an accepted book, whose contents have the property
 record InClass (P : Contents → Type 0) (s : List ℕ) : Type 0 where
@@ -74,7 +75,7 @@ module _ (P : Contents → Type 0) (s : List ℕ) where
   written-class c e false n = (λ y. absurd (false-true y), λ w. absurd (n (class-of c e w)))
 
 module _ (s : List ℕ) where
-  judged-class : (j : Judgement) → Judges s j → (j .verdict ≡ Passed) ↔ InClass RelativelySerializableHistory s
+  judged-class : (j : Judgement) → JudgeAnswers s j → (j .verdict ≡ Passed) ↔ InClass RelativelySerializableHistory s
   judged-class j w = go (read s) refl (w .promise .long (w .order-long) (w .cycle-long))
     where
       go : (o : Outcome) → read s ≡ o → OutcomeJudged (w .order) (w .order′) (w .cycle) (w .cycle′) o j → (j .verdict ≡ Passed) ↔ InClass RelativelySerializableHistory s
@@ -84,10 +85,10 @@ module _ (s : List ℕ) where
           (λ y. record { held = c; book = e; holds = b .0 y }, λ i. b .1 (class-of RelativelySerializableHistory s c e i))
 
   -- the judgement behind the numbers for C
-  judgement-behind : (r : Judged) (w : DeckJudges s r) → Judges s (w .promise .judgement)
+  judgement-behind : (r : Judged) (w : DeckJudgeAnswers s r) → JudgeAnswers s (w .promise .judgement)
   judgement-behind r w = record { order = w .order; order′ = w .order′; cycle = w .cycle; cycle′ = w .cycle′; order-long = w .order-long; cycle-long = w .cycle-long; promise = w .promise .promise }
 
-  deck-judged-class : (r : Judged) → DeckJudges s r → SaysPassed r ↔ InClass RelativelySerializableHistory s
+  deck-judged-class : (r : Judged) → DeckJudgeAnswers s r → SaysPassed r ↔ InClass RelativelySerializableHistory s
   deck-judged-class r w =
       let t = judged-class (w .promise .judgement) (judgement-behind r w) in
       (λ y. t .0 (go (w .promise .judgement .verdict) (sym (ap judged-numbers (w .promise .numbers)) ∙ y)), λ i. rw (w .promise .numbers, t .1 i) refl)
@@ -98,7 +99,7 @@ module _ (s : List ℕ) where
       go Tangled e = absurd (omega (arith, ap (λ (n : Numbers). n .value) e))
 
   -- in the program's text
-  text-class : (c : Contents) → read s ≡ accepted c → (v : ReportVerdict) → VerdictOn c v → TellsPassed v ↔ InClass RelativelySerializableHistory s
+  text-class : (c : Contents) → read s ≡ accepted c → (v : ReportVerdict) → VerdictOn c v → TextSaysPassed v ↔ InClass RelativelySerializableHistory s
   text-class c e (passed l) w = (λ y. record { held = c; book = e; holds = record { order = l; evidence = w .0 } }, λ i. (l, refl))
   text-class c e (tangled l) w = (λ y. absurd (let f = y .1 in let z : _≡_ {A = ℕ} 0 1 = cc in omega arith), λ i. absurd (w .0 (class-of RelativelySerializableHistory s c e i)))
 
@@ -133,15 +134,13 @@ abbrev says : Bool → Tested
 says true = Yes
 says false = No
 
-tested-is : (P : Contents → Type 0) (s : List ℕ) (c : Contents) → read s ≡ accepted c → (b : Bool) → Is b (P c) → (r : Tested) → TestedAs P s r → r ≡ says b
-tested-is P s c e b p r t = go b p r (subst (λ (o : Outcome). OutcomeTested o P r) e (t .tested))
+-- it is the only one that meets the contract
+only-answer : (P : Contents → Type 0) (s : List ℕ) (c : Contents) → read s ≡ accepted c → (b : Bool) → Is b (P c) → (r : Tested) → TestedAs P s r → r ≡ says b
+only-answer P s c e b p r t = all-determined .testing P s r (says b) t (record { tested = subst (λ (o : Outcome). OutcomeTested o P (says b)) (sym e) (go b p) })
   where
-    go : (b : Bool) → Is b (P c) → (r : Tested) → OutcomeTested (accepted c) P r → r ≡ says b
-    go b p (Refused cause place) t = absurd t
-    go true p Yes t = refl
-    go true p No t = absurd (t p)
-    go false p Yes t = absurd (p t)
-    go false p No t = refl
+    go : (b : Bool) → Is b (P c) → OutcomeTested (accepted c) P (says b)
+    go true p = p
+    go false p = p
 
 module _ (t : HistoryRow) (w : Holds t) (ok : RelativelySerializableHistory (row-contents t)) (b : all-bytes (row-bytes t) ≡ true) (e : read (row-bytes t) ≡ accepted (row-contents t)) where
   row-passed : RowPassed t (says (t .serial)) (says (t .atomic)) (says (t .relserial)) (says (t .conflict))
@@ -159,21 +158,21 @@ module _ (t : HistoryRow) (w : Holds t) (ok : RelativelySerializableHistory (row
   }
     where
       serial : (r : Tested) → TestedAs SerialHistory (row-bytes t) r → r ≡ says (t .serial)
-      serial = tested-is SerialHistory (row-bytes t) (row-contents t) e (t .serial) (w .serial-is)
+      serial = only-answer SerialHistory (row-bytes t) (row-contents t) e (t .serial) (w .serial-is)
 
       atomic : (r : Tested) → TestedAs RelativelyAtomicHistory (row-bytes t) r → r ≡ says (t .atomic)
-      atomic = tested-is RelativelyAtomicHistory (row-bytes t) (row-contents t) e (t .atomic) (w .atomic-is)
+      atomic = only-answer RelativelyAtomicHistory (row-bytes t) (row-contents t) e (t .atomic) (w .atomic-is)
 
       relserial : (r : Tested) → TestedAs RelativelySerialHistory (row-bytes t) r → r ≡ says (t .relserial)
-      relserial = tested-is RelativelySerialHistory (row-bytes t) (row-contents t) e (t .relserial) (w .relserial-is)
+      relserial = only-answer RelativelySerialHistory (row-bytes t) (row-contents t) e (t .relserial) (w .relserial-is)
 
       conflict : (r : Tested) → TestedAs ConflictSerializableHistory (row-bytes t) r → r ≡ says (t .conflict)
-      conflict = tested-is ConflictSerializableHistory (row-bytes t) (row-contents t) e (t .conflict) (w .conflict-is)
+      conflict = only-answer ConflictSerializableHistory (row-bytes t) (row-contents t) e (t .conflict) (w .conflict-is)
 
       passes : InClass RelativelySerializableHistory (row-bytes t)
       passes = record { held = row-contents t; book = e; holds = ok }
 
-      judged : (j : Judgement) → Judges (row-bytes t) j → j .verdict ≡ Passed
+      judged : (j : Judgement) → JudgeAnswers (row-bytes t) j → j .verdict ≡ Passed
       judged j x = judged-class (row-bytes t) j x .1 passes
 
       -- the numbers for C of such an answer
@@ -182,7 +181,7 @@ module _ (t : HistoryRow) (w : Holds t) (ok : RelativelySerializableHistory (row
 
 -- ---- the theorem
 
-module _ (s text text′ : List ℕ) (n : ℕ) (p : Reports (read s) text text′ n) (w : Findings) (e : p .report ≡ accepted-with w) where
+module _ (s before after : List ℕ) (n : ℕ) (p : Reports (read s) before after n) (w : Findings) (e : p .report ≡ accepted-with w) where
   -- a text that is no refusal is of an accepted book
   text-of-book : (c : Contents) × (read s ≡ accepted c) × FindingsOn c w
   text-of-book = go (read s) refl (subst (λ (x : Report). ReportOn (read s) x) e (p .report-on))
@@ -194,10 +193,10 @@ module _ (s text text′ : List ℕ) (n : ℕ) (p : Reports (read s) text text�
   text-conflict : (w .conflict ≡ true) ↔ InClass ConflictSerializableHistory s
   text-conflict = written-class ConflictSerializableHistory s (text-of-book .0) (text-of-book .1) (w .conflict) (text-of-book .2 .classes-are .conflict-is)
 
-  text-verdict : TellsPassed (w .verdict) ↔ InClass RelativelySerializableHistory s
+  text-verdict : TextSaysPassed (w .verdict) ↔ InClass RelativelySerializableHistory s
   text-verdict = text-class s (text-of-book .0) (text-of-book .1) (w .verdict) (text-of-book .2 .verdict-is)
 
-  text-nested : Nested (w .serial ≡ true) (w .atomic ≡ true) (w .relserial ≡ true) (w .conflict ≡ true) (TellsPassed (w .verdict))
+  text-nested : Nested (w .serial ≡ true) (w .atomic ≡ true) (w .relserial ≡ true) (w .conflict ≡ true) (TextSaysPassed (w .verdict))
   text-nested =
       let c = text-of-book .0 in
       let r = text-of-book .1 in
@@ -215,7 +214,7 @@ classes-nested = record {
       (answered-class RelativelySerialHistory s relserial (x .relserial-is)) (answered-class ConflictSerializableHistory s conflict (x .conflict-is)) (deck-judged-class s j (x .judgement-is));
   deck-any-cuts = λ s s′ o conflict j c x. any-cuts s s′ o (answered-class ConflictSerializableHistory s conflict c) (deck-judged-class s′ j x);
   text = text-nested;
-  text-any-cuts = λ s s′ o text text′ more more′ n n′ p p′ w w′ e e′. any-cuts s s′ o (text-conflict s text text′ n p w e) (text-verdict s′ more more′ n′ p′ w′ e′);
+  text-any-cuts = λ s s′ o before after before′ after′ n n′ p p′ w w′ e e′. any-cuts s s′ o (text-conflict s before after n p w e) (text-verdict s′ before′ after′ n′ p′ w′ e′);
   wider-3 = row-passed row-3 (twelve-rows .each .1 .1 .0) (twelve-rows .each .1 .1 .0 .verdict-is .0) refl refl;
   wider-6 = row-passed row-6 (twelve-rows .each .1 .1 .1 .1 .1 .0) (twelve-rows .each .1 .1 .1 .1 .1 .0 .verdict-is .0) refl refl;
   wider-8 = row-passed row-8 (twelve-rows .each .1 .1 .1 .1 .1 .1 .1 .0) (twelve-rows .each .1 .1 .1 .1 .1 .1 .1 .0 .verdict-is .0) refl refl;

@@ -49,8 +49,8 @@ pub record OtherCuts (s s′ : List ℕ) : Type 0 where
 
 -- ---- the answers to a book, each as the call's contract has it
 
--- what the judge promises, of some buffers as long as it asks
-pub record LongBuffers (P : List ℕ → List ℕ → List ℕ → List ℕ → Type 0) : Type 0 where
+-- what the judge promises, called with some buffers as long as it asks: before the call, and with ′ after it
+pub record WithLongBuffers (P : List ℕ → List ℕ → List ℕ → List ℕ → Type 0) : Type 0 where
   pub order : List ℕ
   pub order′ : List ℕ
   pub cycle : List ℕ
@@ -59,26 +59,26 @@ pub record LongBuffers (P : List ℕ → List ℕ → List ℕ → List ℕ → 
   pub cycle-long : step-limit ≤ length cycle
   pub promise : P order order′ cycle cycle′
 
-abbrev pub Judges : List ℕ → Judgement → Type 0
-Judges s j = LongBuffers (λ order order′ cycle cycle′. BytesJudged order order′ cycle cycle′ s j)
+abbrev pub JudgeAnswers : List ℕ → Judgement → Type 0
+JudgeAnswers s j = WithLongBuffers (λ order order′ cycle cycle′. BytesJudged order order′ cycle cycle′ s j)
 
-pub record ClassesAsked (s : List ℕ) (serial atomic relserial conflict : Tested) (j : Judgement) : Type 0 where
+pub record ClassesAnswered (s : List ℕ) (serial atomic relserial conflict : Tested) (j : Judgement) : Type 0 where
   pub serial-is : TestedAs SerialHistory s serial
   pub atomic-is : TestedAs RelativelyAtomicHistory s atomic
   pub relserial-is : TestedAs RelativelySerialHistory s relserial
   pub conflict-is : TestedAs ConflictSerializableHistory s conflict
-  pub judgement-is : Judges s j
+  pub judgement-is : JudgeAnswers s j
 
 -- the same for C
-abbrev pub DeckJudges : List ℕ → Judged → Type 0
-DeckJudges s r = LongBuffers (λ order order′ cycle cycle′. JudgeCall s order order′ cycle cycle′ r)
+abbrev pub DeckJudgeAnswers : List ℕ → Judged → Type 0
+DeckJudgeAnswers s r = WithLongBuffers (λ order order′ cycle cycle′. JudgeCall s order order′ cycle cycle′ r)
 
-pub record DeckClassesAsked (s : List ℕ) (serial atomic relserial conflict : Answered) (j : Judged) : Type 0 where
+pub record DeckClassesAnswered (s : List ℕ) (serial atomic relserial conflict : Answered) (j : Judged) : Type 0 where
   pub serial-is : TestCall SerialHistory s serial
   pub atomic-is : TestCall RelativelyAtomicHistory s atomic
   pub relserial-is : TestCall RelativelySerialHistory s relserial
   pub conflict-is : TestCall ConflictSerializableHistory s conflict
-  pub judgement-is : DeckJudges s j
+  pub judgement-is : DeckJudgeAnswers s j
 
 -- in numbers, yes and passed are each the value 1, and no refusal
 abbrev pub SaysYes : Answered → Type 0
@@ -88,8 +88,8 @@ abbrev pub SaysPassed : Judged → Type 0
 SaysPassed r = judged-numbers r ≡ value-of 1
 
 -- the text says that the verdict is passed
-abbrev pub TellsPassed : ReportVerdict → Type 0
-TellsPassed v = (order : List ℕ) × (v ≡ passed order)
+abbrev pub TextSaysPassed : ReportVerdict → Type 0
+TextSaysPassed v = (order : List ℕ) × (v ≡ passed order)
 
 -- ---- where the classes are wider
 
@@ -100,13 +100,13 @@ row-contents t = contents pairs (t .runs) (t .cuts) (t .history)
 abbrev pub row-bytes : HistoryRow → List ℕ
 row-bytes t = render (row-contents t)
 
--- a row's book is accepted, the four class tests answer these, and the judge says passed; and so do the entries for C in numbers
+-- a row's book is accepted, the four class tests answer these, in document 01's order, and the judge says passed; and so do the entries for C in numbers
 pub record RowPassed (t : HistoryRow) (serial atomic relserial conflict : Tested) : Type 0 where
   pub bytes : Bytes (row-bytes t)
   pub book : read (row-bytes t) ≡ accepted (row-contents t)
-  pub answers : (serial′ atomic′ relserial′ conflict′ : Tested) (j : Judgement) → ClassesAsked (row-bytes t) serial′ atomic′ relserial′ conflict′ j
+  pub answers : (serial′ atomic′ relserial′ conflict′ : Tested) (j : Judgement) → ClassesAnswered (row-bytes t) serial′ atomic′ relserial′ conflict′ j
       → (serial′ ≡ serial) × (atomic′ ≡ atomic) × (relserial′ ≡ relserial) × (conflict′ ≡ conflict) × (j .verdict ≡ Passed)
-  pub deck-answers : (serial′ atomic′ relserial′ conflict′ : Answered) (j : Judged) → DeckClassesAsked (row-bytes t) serial′ atomic′ relserial′ conflict′ j
+  pub deck-answers : (serial′ atomic′ relserial′ conflict′ : Answered) (j : Judged) → DeckClassesAnswered (row-bytes t) serial′ atomic′ relserial′ conflict′ j
       → (answered-numbers serial′ ≡ tested-numbers serial) × (answered-numbers atomic′ ≡ tested-numbers atomic) × (answered-numbers relserial′ ≡ tested-numbers relserial)
       × (answered-numbers conflict′ ≡ tested-numbers conflict) × (judged-numbers j ≡ verdict-numbers Passed)
 
@@ -114,20 +114,21 @@ pub record RowPassed (t : HistoryRow) (serial atomic relserial conflict : Tested
 
 -- s is any bytes: where they are refused as a book, so is every call
 pub record ClassesNested : Type 0 where
-  pub calls : (s : List ℕ) (serial atomic relserial conflict : Tested) (j : Judgement) → ClassesAsked s serial atomic relserial conflict j
+  pub calls : (s : List ℕ) (serial atomic relserial conflict : Tested) (j : Judgement) → ClassesAnswered s serial atomic relserial conflict j
       → Nested (serial ≡ Yes) (atomic ≡ Yes) (relserial ≡ Yes) (conflict ≡ Yes) (j .verdict ≡ Passed)
-  pub calls-any-cuts : (s s′ : List ℕ) → OtherCuts s s′ → (conflict : Tested) (j : Judgement) → TestedAs ConflictSerializableHistory s conflict → Judges s′ j
+  pub calls-any-cuts : (s s′ : List ℕ) → OtherCuts s s′ → (conflict : Tested) (j : Judgement) → TestedAs ConflictSerializableHistory s conflict → JudgeAnswers s′ j
       → conflict ≡ Yes → j .verdict ≡ Passed
   -- for C
-  pub deck-calls : (s : List ℕ) (serial atomic relserial conflict : Answered) (j : Judged) → DeckClassesAsked s serial atomic relserial conflict j
+  pub deck-calls : (s : List ℕ) (serial atomic relserial conflict : Answered) (j : Judged) → DeckClassesAnswered s serial atomic relserial conflict j
       → Nested (SaysYes serial) (SaysYes atomic) (SaysYes relserial) (SaysYes conflict) (SaysPassed j)
-  pub deck-any-cuts : (s s′ : List ℕ) → OtherCuts s s′ → (conflict : Answered) (j : Judged) → TestCall ConflictSerializableHistory s conflict → DeckJudges s′ j
+  pub deck-any-cuts : (s s′ : List ℕ) → OtherCuts s s′ → (conflict : Answered) (j : Judged) → TestCall ConflictSerializableHistory s conflict → DeckJudgeAnswers s′ j
       → SaysYes conflict → SaysPassed j
-  -- what the program writes; text is the buffer before the call, text′ after it
-  pub text : (s text text′ : List ℕ) (n : ℕ) (p : Reports (read s) text text′ n) (w : Findings) → p .report ≡ accepted-with w
-      → Nested (w .serial ≡ true) (w .atomic ≡ true) (w .relserial ≡ true) (w .conflict ≡ true) (TellsPassed (w .verdict))
-  pub text-any-cuts : (s s′ : List ℕ) → OtherCuts s s′ → (text text′ more more′ : List ℕ) (n n′ : ℕ) (p : Reports (read s) text text′ n) (p′ : Reports (read s′) more more′ n′)
-      → (w w′ : Findings) → p .report ≡ accepted-with w → p′ .report ≡ accepted-with w′ → w .conflict ≡ true → TellsPassed (w′ .verdict)
+  -- of the program's text, as `report` puts it into a buffer
+  pub text : (s before after : List ℕ) (n : ℕ) (p : Reports (read s) before after n) (w : Findings) → p .report ≡ accepted-with w
+      → Nested (w .serial ≡ true) (w .atomic ≡ true) (w .relserial ≡ true) (w .conflict ≡ true) (TextSaysPassed (w .verdict))
+  pub text-any-cuts : (s s′ : List ℕ) → OtherCuts s s′ → (before after before′ after′ : List ℕ) (n n′ : ℕ)
+      → (p : Reports (read s) before after n) (p′ : Reports (read s′) before′ after′ n′) (w w′ : Findings) → p .report ≡ accepted-with w → p′ .report ≡ accepted-with w′
+      → w .conflict ≡ true → TextSaysPassed (w′ .verdict)
   -- Rows 3, 6 and 8 show where the classes are wider. Row 3 is conflict serializable and not serial, passed and not relatively serial
   pub wider-3 : RowPassed row-3 No No No Yes
   -- Row 6 is relatively atomic and not serial, passed and not conflict serializable

@@ -1,12 +1,12 @@
 -- The demands, and that the classes are nested, of what the functions of this crate return: the results of the public calls.
 use Prim.Native.Nat.{ℕ, _*_, _≤_}
 use mathlib.Core.Path.{_≡_}
+use mathlib.Core.Bool.{true}
 use mathlib.Core.List.{List}
 use lib.ListN.{length, take}
 use Rattle.buffer.specs.Put.{Put}
-use Rattle.book.specs.Format.{Contents, Outcome, accepted, step-limit, read}
+use Rattle.book.specs.Format.{Contents, accepted, step-limit, read}
 use Rattle.classes.specs.declared.Tested.the-variants.{Yes}
-use Rattle.judge.specs.Judge.{OutcomeJudged}
 use Rattle.judge.specs.declared.Judgement.{Judgement}
 use Rattle.judge.specs.declared.Verdict.the-variants.{Passed}
 use Rattle.gate.specs.Plain.{step, withdraw}
@@ -17,11 +17,12 @@ use Rattle.gate.specs.declared.Gate.{Gate}
 use Rattle.gate.specs.declared.Replayed.{Replayed}
 use Rattle.gate.specs.declared.Played.the-variants.{Done}
 use Rattle.report.specs.Text.{Findings, refused-at, accepted-with, text-of}
+use Rattle.report.specs.Reporting.{Reports}
 use Rattle.capi.specs.declared.Answered.{Answered}
 use Rattle.capi.specs.declared.Judged.{Judged}
 use Rattle.claims.specs.Table.{BookRow, NoRow, JudgeRow, WriterRow, GateRow, ReplayRow}
 use Rattle.claims.specs.Demands.{TurnsAway, BuffersUnchanged, WithoutRuns, answered-numbers, judged-numbers, opened-numbers, Demand2}
-use Rattle.claims.specs.Classes.{Nested, OtherCuts, LongBuffers, Judges, ClassesAsked, DeckJudges, SaysYes, SaysPassed}
+use Rattle.claims.specs.Classes.{Nested, OtherCuts, JudgeAnswers, ClassesAnswered, DeckJudgeAnswers, DeckClassesAnswered, SaysYes, SaysPassed, TextSaysPassed}
 use Rattle.demands.specs.declared.BookAnswers.{BookAnswers}
 use Rattle.demands.specs.declared.ClassAnswers.{ClassAnswers}
 use Rattle.demands.specs.declared.DeckClassAnswers.{DeckClassAnswers}
@@ -73,18 +74,25 @@ pub record Demand3Of (s calls answers answers′ : List ℕ) (r : Replayed) : Ty
   pub holds : (c : Contents) → read s ≡ accepted c → ((n place : ℕ) → ¬ ReplayRow s calls answers n place)
       → Demand3 s c (calls-of calls) (answers-in (take (2 * length (calls-of calls)) answers′)) (state-of (r .gate))
 
--- the judge's answer to a book that was read with this outcome, in buffers as long as the judge asks
-abbrev pub OutcomeAnswered : Outcome → Judgement → Type 0
-OutcomeAnswered o j = LongBuffers (λ order order′ cycle cycle′. OutcomeJudged order order′ cycle cycle′ o j)
+-- ---- document 02, change 2: the classes of one book are nested, under any cuts
 
--- document 02, change 2, of the answers to one book: each is as its call promises, and the classes are nested, under any cuts
+-- of the answers that the calls promise
 pub record NestedAnswers (s : List ℕ) (r : ClassAnswers) : Type 0 where
-  pub asked : ClassesAsked s (r .serial) (r .atomic) (r .relserial) (r .conflict) (r .judgement)
+  pub promised : ClassesAnswered s (r .serial) (r .atomic) (r .relserial) (r .conflict) (r .judgement)
   pub nested : Nested (r .serial ≡ Yes) (r .atomic ≡ Yes) (r .relserial ≡ Yes) (r .conflict ≡ Yes) (r .judgement .verdict ≡ Passed)
-  pub any-cuts : (s′ : List ℕ) → OtherCuts s s′ → (j : Judgement) → Judges s′ j → r .conflict ≡ Yes → j .verdict ≡ Passed
+  pub any-cuts : (s′ : List ℕ) → OtherCuts s s′ → (j : Judgement) → JudgeAnswers s′ j → r .conflict ≡ Yes → j .verdict ≡ Passed
 
--- the same of the calls for C
+-- the same of the calls for C, in buffers as long as the judge asks
 pub record NestedDeckAnswers (s order cycle : List ℕ) (r : DeckClassAnswers) : Type 0 where
+  pub promised : step-limit ≤ length order → step-limit ≤ length cycle → DeckClassesAnswered s (r .serial) (r .atomic) (r .relserial) (r .conflict) (r .judged)
   pub nested : step-limit ≤ length order → step-limit ≤ length cycle
       → Nested (SaysYes (r .serial)) (SaysYes (r .atomic)) (SaysYes (r .relserial)) (SaysYes (r .conflict)) (SaysPassed (r .judged))
-  pub any-cuts : (s′ : List ℕ) → OtherCuts s s′ → (j : Judged) → DeckJudges s′ j → SaysYes (r .conflict) → SaysPassed j
+  pub any-cuts : (s′ : List ℕ) → OtherCuts s s′ → (j : Judged) → DeckJudgeAnswers s′ j → SaysYes (r .conflict) → SaysPassed j
+
+-- the same of the program's text, in the buffer before and after the call
+pub record NestedText (s before after : List ℕ) (n : ℕ) : Type 0 where
+  pub promised : Reports (read s) before after n
+  pub nested : (w : Findings) → promised .report ≡ accepted-with w
+      → Nested (w .serial ≡ true) (w .atomic ≡ true) (w .relserial ≡ true) (w .conflict ≡ true) (TextSaysPassed (w .verdict))
+  pub any-cuts : (s′ : List ℕ) → OtherCuts s s′ → (before′ after′ : List ℕ) (n′ : ℕ) (p′ : Reports (read s′) before′ after′ n′) (w w′ : Findings)
+      → promised .report ≡ accepted-with w → p′ .report ≡ accepted-with w′ → w .conflict ≡ true → TextSaysPassed (w′ .verdict)

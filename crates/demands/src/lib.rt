@@ -1,6 +1,6 @@
-// The demands as contracts: `demand_1`, `demand_2` and `demand_3` make the public calls and ensure the demand of what they return; `nested_classes` and
-// `nested_deck_classes` ask for the classes of a book and ensure that they are nested. `claims` states the demands and the nested classes, and proves them
-// of whatever meets the calls' contracts.
+// The demands as contracts: `demand_1`, `demand_2` and `demand_3` make the public calls and ensure the demand of what they return; `nested_classes`,
+// `nested_deck_classes` and `nested_text` ask for the classes of a book and ensure that they are nested. `claims` states the demands and the nested classes,
+// and proves them of whatever meets the calls' contracts.
 use book::Answer;
 use book::Book;
 use capi::Answered;
@@ -14,7 +14,8 @@ use judge::Verdict;
 ghost use Rattle.book.specs.Book.{Valid, outcome-by};
 ghost use Rattle.gate.specs.Plain.{step as step-call, withdraw as withdraw-call};
 ghost use Rattle.capi.specs.Calls.{GateCall};
-ghost use Rattle.demands.specs.Results.{BookRefusals, JudgeRefusals, WriteRefusals, ReplayRefusals, TextRefusals, GateRefusals, Demand2Of, Demand3Of, OutcomeAnswered, NestedAnswers, NestedDeckAnswers};
+ghost use Rattle.demands.specs.Results.{BookRefusals, JudgeRefusals, WriteRefusals, ReplayRefusals, TextRefusals, GateRefusals, Demand2Of, Demand3Of, NestedAnswers, NestedDeckAnswers, NestedText};
+ghost use Rattle.demands.specs.inner.Readings.{OutcomeAnswered};
 
 // What the calls that read a book and change nothing return.
 pub struct BookAnswers {
@@ -245,16 +246,18 @@ pub struct DeckClassAnswers {
 pub fn nested_deck_classes(s: &[u8], order: &mut [u8], cycle: &mut [u8]) -> DeckClassAnswers
     ensures { λ r. ⌜ NestedDeckAnswers (now (s .entry)) (now (order .entry)) (now (cycle .entry)) r ⌝ }
 {
-    let serial = capi::deck_serial(s);
-    let atomic = capi::deck_atomic(s);
-    let relserial = capi::deck_relserial(s);
-    let conflict = capi::deck_conflict(s);
-    let judged = capi::deck_judge(s, order, cycle);
     DeckClassAnswers {
-        serial,
-        atomic,
-        relserial,
-        conflict,
-        judged,
+        serial: capi::deck_serial(s),
+        atomic: capi::deck_atomic(s),
+        relserial: capi::deck_relserial(s),
+        conflict: capi::deck_conflict(s),
+        judged: capi::deck_judge(s, order, cycle),
     }
+}
+
+// The five classes of one book, in the program's text.
+pub fn nested_text(s: &[u8], text: &mut [u8; report::TEXT]) -> usize
+    ensures { λ r. ⌜ NestedText (now (s .entry)) (now (text .entry)) (now (text .exit)) r ⌝ }
+{
+    report::report(s, text)
 }

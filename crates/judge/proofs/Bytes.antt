@@ -18,10 +18,10 @@ use Rattle.judge.specs.Judge.{RefusedAs, OutcomeJudged, BytesJudged}
 use Rattle.judge.specs.declared.Verdict.the-variants.{Refused}
 use Rattle.judge.specs.declared.Judgement.{Judgement}
 
-abbrev refusal : Cause → ℕ → Judgement
+abbrev pub refusal : Cause → ℕ → Judgement
 refusal cause place = record { verdict = Refused cause place; count = 0 }
 
-refused-as : (order cycle : List ℕ) (cause : Cause) (place : ℕ) (r : Judgement) → r ≡ refusal cause place → RefusedAs order order cycle cycle cause place r
+pub refused-as : (order cycle : List ℕ) (cause : Cause) (place : ℕ) (r : Judgement) → r ≡ refusal cause place → RefusedAs order order cycle cycle cause place r
 refused-as order cycle cause place r e = record { verdict-is = ap (λ (x : Judgement). x .verdict) e; numbers = rw e; count-is = ap (λ (x : Judgement). x .count) e; order-unchanged = refl; cycle-unchanged = refl }
 
 not-both : {m n : ℕ} {P : Type 0} → m < n → n ≤ m → P

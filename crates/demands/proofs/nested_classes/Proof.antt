@@ -2,7 +2,7 @@
 use Rattle.claims.proofs.Classes.{classes-nested}
 use Rattle.book.specs.Meaning.{SerialHistory, RelativelyAtomicHistory, RelativelySerialHistory, ConflictSerializableHistory}
 use Rattle.classes.proofs.BookLaws.{tested}
-use Rattle.claims.specs.Classes.{ClassesAsked}
+use Rattle.claims.specs.Classes.{ClassesAnswered}
 use Rattle.demands.proofs.Readings.{reading-judged}
 use borrow.Author.Needs.{needs}
 use Rattle.demands.proofs.nested_classes.Statement.{statement}
@@ -45,7 +45,7 @@ returns c =
     let atomic = relserial .before .before in
     let serial = atomic .before .before in
     let read = serial .before .before .before .read .ensures in
-    let answers : ClassesAsked _ _ _ _ _ _ = record {
+    let answers : ClassesAnswered _ _ _ _ _ _ = record {
       serial-is = tested SerialHistory _ _ read _ (serial .before .is-serial .ensures) _ (serial .tested-by .ensures);
       atomic-is = tested RelativelyAtomicHistory _ _ read _ (atomic .before .is-relatively-atomic .ensures) _ (atomic .tested-by2 .ensures);
       relserial-is = tested RelativelySerialHistory _ _ read _ (relserial .before .is-relatively-serial .ensures) _ (relserial .tested-by3 .ensures);
@@ -53,7 +53,7 @@ returns c =
       judgement-is = reading-judged _ _ read _ (c .judgement-by .ensures);
     } in
     record {
-      asked = answers;
+      promised = answers;
       nested = classes-nested .calls _ _ _ _ _ _ answers;
       any-cuts = λ s′ o j w. classes-nested .calls-any-cuts _ s′ o _ j (answers .conflict-is) w;
     }

@@ -1,5 +1,6 @@
 -- Each answer meets its call's contract, and answers that do are nested.
 use Rattle.claims.proofs.Classes.{classes-nested}
+use Rattle.demands.proofs.Readings.{deck-answered}
 use borrow.Author.Needs.{needs}
 use Rattle.demands.proofs.nested_deck_classes.Statement.{statement}
 use Rattle.demands.proofs.nested_deck_classes.Tie as tie
@@ -31,14 +32,10 @@ returns c =
     let conflict = judge .before .before .before in
     let relserial = conflict .before in
     let atomic = relserial .before in
+    let answers = deck-answered (atomic .before .deck-serial .ensures) (atomic .deck-atomic .ensures) (relserial .deck-relserial .ensures) (conflict .deck-conflict .ensures) (judge .deck-judge .ensures) in
     record {
-      nested = λ a b. classes-nested .deck-calls _ _ _ _ _ _ (record {
-        serial-is = atomic .before .deck-serial .ensures;
-        atomic-is = atomic .deck-atomic .ensures;
-        relserial-is = relserial .deck-relserial .ensures;
-        conflict-is = conflict .deck-conflict .ensures;
-        judgement-is = record { order = _; order′ = _; cycle = _; cycle′ = _; order-long = a; cycle-long = b; promise = judge .deck-judge .ensures };
-      });
+      promised = answers;
+      nested = λ a b. classes-nested .deck-calls _ _ _ _ _ _ (answers a b);
       any-cuts = λ s′ o j w. classes-nested .deck-any-cuts _ s′ o _ j (conflict .deck-conflict .ensures) w;
     }
 

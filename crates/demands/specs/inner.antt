@@ -1,0 +1,2 @@
+-- What functions promise one another: no part of what a user is promised.
+pub mod Readings
