@@ -1,6 +1,7 @@
 /* Asks the proved calls which of five classes a history is in, on many books from a fixed seed, whole, damaged and over the limits, and on each
-   accepted one under other cuts, and checks that the classes are nested. Prints 'N passed, M failed', a count of books from the seed; of these, for each
-   inclusion how many are in both classes and how many in the larger alone, and how many are tangled. It fails where one of these counts is 0. */
+   accepted one under other cuts, and checks that the classes are nested. Prints 'N passed, M failed', a count of books from the seed; of those in
+   whose history two runs at least have a done step, for each inclusion how many are in both classes and how many in the larger alone, and how many are
+   tangled. It fails where one of these counts is 0. */
 #include "books.h"
 #include "plain.h"
 #include <stdio.h>

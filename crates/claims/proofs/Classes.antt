@@ -30,7 +30,7 @@ use Rattle.capi.specs.Calls.{TestCall}
 use Rattle.capi.specs.declared.Answered.{Answered}
 use Rattle.capi.specs.declared.Judged.{Judged}
 use Rattle.claims.specs.Demands.{answered-numbers, judged-numbers}
-use Rattle.claims.specs.Classes.{Nested, OtherCuts, JudgeAnswers, DeckJudgeAnswers, SaysYes, SaysPassed, TextSaysPassed, row-contents, row-bytes, RowPassed, ClassesNested}
+use Rattle.claims.specs.Classes.{Nested, OtherCuts, JudgeAnswered, DeckJudgeAnswered, SaysYes, SaysPassed, TextSaysPassed, NestedFindings, row-contents, row-bytes, RowPassed, ClassesNested}
 use Rattle.claims.proofs.Bytes.{all-bytes, bytes}
 use Rattle.claims.proofs.Determined.{all-determined}
 
@@ -75,7 +75,7 @@ module _ (P : Contents → Type 0) (s : List ℕ) where
   written-class c e false n = (λ y. absurd (false-true y), λ w. absurd (n (class-of c e w)))
 
 module _ (s : List ℕ) where
-  judged-class : (j : Judgement) → JudgeAnswers s j → (j .verdict ≡ Passed) ↔ InClass RelativelySerializableHistory s
+  judged-class : (j : Judgement) → JudgeAnswered s j → (j .verdict ≡ Passed) ↔ InClass RelativelySerializableHistory s
   judged-class j w = go (read s) refl (w .promise .long (w .order-long) (w .cycle-long))
     where
       go : (o : Outcome) → read s ≡ o → OutcomeJudged (w .order) (w .order′) (w .cycle) (w .cycle′) o j → (j .verdict ≡ Passed) ↔ InClass RelativelySerializableHistory s
@@ -85,10 +85,10 @@ module _ (s : List ℕ) where
           (λ y. record { held = c; book = e; holds = b .0 y }, λ i. b .1 (class-of RelativelySerializableHistory s c e i))
 
   -- the judgement behind the numbers for C
-  judgement-behind : (r : Judged) (w : DeckJudgeAnswers s r) → JudgeAnswers s (w .promise .judgement)
+  judgement-behind : (r : Judged) (w : DeckJudgeAnswered s r) → JudgeAnswered s (w .promise .judgement)
   judgement-behind r w = record { order = w .order; order′ = w .order′; cycle = w .cycle; cycle′ = w .cycle′; order-long = w .order-long; cycle-long = w .cycle-long; promise = w .promise .promise }
 
-  deck-judged-class : (r : Judged) → DeckJudgeAnswers s r → SaysPassed r ↔ InClass RelativelySerializableHistory s
+  deck-judged-class : (r : Judged) → DeckJudgeAnswered s r → SaysPassed r ↔ InClass RelativelySerializableHistory s
   deck-judged-class r w =
       let t = judged-class (w .promise .judgement) (judgement-behind r w) in
       (λ y. t .0 (go (w .promise .judgement .verdict) (sym (ap judged-numbers (w .promise .numbers)) ∙ y)), λ i. rw (w .promise .numbers, t .1 i) refl)
@@ -172,7 +172,7 @@ module _ (t : HistoryRow) (w : Holds t) (ok : RelativelySerializableHistory (row
       passes : InClass RelativelySerializableHistory (row-bytes t)
       passes = record { held = row-contents t; book = e; holds = ok }
 
-      judged : (j : Judgement) → JudgeAnswers (row-bytes t) j → j .verdict ≡ Passed
+      judged : (j : Judgement) → JudgeAnswered (row-bytes t) j → j .verdict ≡ Passed
       judged j x = judged-class (row-bytes t) j x .1 passes
 
       -- the numbers for C of such an answer
@@ -196,7 +196,7 @@ module _ (s before after : List ℕ) (n : ℕ) (p : Reports (read s) before afte
   text-verdict : TextSaysPassed (w .verdict) ↔ InClass RelativelySerializableHistory s
   text-verdict = text-class s (text-of-book .0) (text-of-book .1) (w .verdict) (text-of-book .2 .verdict-is)
 
-  text-nested : Nested (w .serial ≡ true) (w .atomic ≡ true) (w .relserial ≡ true) (w .conflict ≡ true) (TextSaysPassed (w .verdict))
+  text-nested : NestedFindings w
   text-nested =
       let c = text-of-book .0 in
       let r = text-of-book .1 in

@@ -27,20 +27,20 @@ use Rattle.claims.specs.Demands.{answered-numbers, judged-numbers}
 
 -- ---- nested
 
--- each class is told by what is answered to a book whose history is in it
-pub record Nested (Serial Atomic Relserial Conflict Pass : Type 0) : Type 0 where
+-- each parameter says of one book, by an answer, that its history is in the class
+pub record Nested (IsSerial IsAtomic IsRelserial IsConflict IsPassed : Type 0) : Type 0 where
   -- Every serial history is relatively atomic,
-  pub serial-atomic : Serial → Atomic
+  pub serial-atomic : IsSerial → IsAtomic
   -- every relatively atomic one relatively serial,
-  pub atomic-relserial : Atomic → Relserial
+  pub atomic-relserial : IsAtomic → IsRelserial
   -- and every relatively serial one passed.
-  pub relserial-passed : Relserial → Pass
+  pub relserial-passed : IsRelserial → IsPassed
   -- Every serial history is also conflict serializable,
-  pub serial-conflict : Serial → Conflict
+  pub serial-conflict : IsSerial → IsConflict
   -- and every conflict serializable one is passed, under the book's own cuts
-  pub conflict-passed : Conflict → Pass
+  pub conflict-passed : IsConflict → IsPassed
 
--- and under any others: the book of s′ differs from that of s in its cuts alone
+-- "under any cuts": the book of s′ differs from that of s in its cuts alone
 pub record OtherCuts (s s′ : List ℕ) : Type 0 where
   pub held : Contents
   pub cuts : List Cut
@@ -59,26 +59,26 @@ pub record WithLongBuffers (P : List ℕ → List ℕ → List ℕ → List ℕ 
   pub cycle-long : step-limit ≤ length cycle
   pub promise : P order order′ cycle cycle′
 
-abbrev pub JudgeAnswers : List ℕ → Judgement → Type 0
-JudgeAnswers s j = WithLongBuffers (λ order order′ cycle cycle′. BytesJudged order order′ cycle cycle′ s j)
+abbrev pub JudgeAnswered : List ℕ → Judgement → Type 0
+JudgeAnswered s j = WithLongBuffers (λ order order′ cycle cycle′. BytesJudged order order′ cycle cycle′ s j)
 
 pub record ClassesAnswered (s : List ℕ) (serial atomic relserial conflict : Tested) (j : Judgement) : Type 0 where
   pub serial-is : TestedAs SerialHistory s serial
   pub atomic-is : TestedAs RelativelyAtomicHistory s atomic
   pub relserial-is : TestedAs RelativelySerialHistory s relserial
   pub conflict-is : TestedAs ConflictSerializableHistory s conflict
-  pub judgement-is : JudgeAnswers s j
+  pub judgement-is : JudgeAnswered s j
 
 -- the same for C
-abbrev pub DeckJudgeAnswers : List ℕ → Judged → Type 0
-DeckJudgeAnswers s r = WithLongBuffers (λ order order′ cycle cycle′. JudgeCall s order order′ cycle cycle′ r)
+abbrev pub DeckJudgeAnswered : List ℕ → Judged → Type 0
+DeckJudgeAnswered s r = WithLongBuffers (λ order order′ cycle cycle′. JudgeCall s order order′ cycle cycle′ r)
 
 pub record DeckClassesAnswered (s : List ℕ) (serial atomic relserial conflict : Answered) (j : Judged) : Type 0 where
   pub serial-is : TestCall SerialHistory s serial
   pub atomic-is : TestCall RelativelyAtomicHistory s atomic
   pub relserial-is : TestCall RelativelySerialHistory s relserial
   pub conflict-is : TestCall ConflictSerializableHistory s conflict
-  pub judgement-is : DeckJudgeAnswers s j
+  pub judgement-is : DeckJudgeAnswered s j
 
 -- in numbers, yes and passed are each the value 1, and no refusal
 abbrev pub SaysYes : Answered → Type 0
@@ -90,6 +90,16 @@ SaysPassed r = judged-numbers r ≡ value-of 1
 -- the text says that the verdict is passed
 abbrev pub TextSaysPassed : ReportVerdict → Type 0
 TextSaysPassed v = (order : List ℕ) × (v ≡ passed order)
+
+-- the classes are nested, as the four tests and the judge answer
+abbrev pub NestedCalls : Tested → Tested → Tested → Tested → Judgement → Type 0
+NestedCalls serial atomic relserial conflict j = Nested (serial ≡ Yes) (atomic ≡ Yes) (relserial ≡ Yes) (conflict ≡ Yes) (j .verdict ≡ Passed)
+
+abbrev pub NestedDeckCalls : Answered → Answered → Answered → Answered → Judged → Type 0
+NestedDeckCalls serial atomic relserial conflict j = Nested (SaysYes serial) (SaysYes atomic) (SaysYes relserial) (SaysYes conflict) (SaysPassed j)
+
+abbrev pub NestedFindings : Findings → Type 0
+NestedFindings w = Nested (w .serial ≡ true) (w .atomic ≡ true) (w .relserial ≡ true) (w .conflict ≡ true) (TextSaysPassed (w .verdict))
 
 -- ---- where the classes are wider
 
@@ -115,17 +125,16 @@ pub record RowPassed (t : HistoryRow) (serial atomic relserial conflict : Tested
 -- s is any bytes: where they are refused as a book, so is every call
 pub record ClassesNested : Type 0 where
   pub calls : (s : List ℕ) (serial atomic relserial conflict : Tested) (j : Judgement) → ClassesAnswered s serial atomic relserial conflict j
-      → Nested (serial ≡ Yes) (atomic ≡ Yes) (relserial ≡ Yes) (conflict ≡ Yes) (j .verdict ≡ Passed)
-  pub calls-any-cuts : (s s′ : List ℕ) → OtherCuts s s′ → (conflict : Tested) (j : Judgement) → TestedAs ConflictSerializableHistory s conflict → JudgeAnswers s′ j
+      → NestedCalls serial atomic relserial conflict j
+  pub calls-any-cuts : (s s′ : List ℕ) → OtherCuts s s′ → (conflict : Tested) (j : Judgement) → TestedAs ConflictSerializableHistory s conflict → JudgeAnswered s′ j
       → conflict ≡ Yes → j .verdict ≡ Passed
   -- for C
   pub deck-calls : (s : List ℕ) (serial atomic relserial conflict : Answered) (j : Judged) → DeckClassesAnswered s serial atomic relserial conflict j
-      → Nested (SaysYes serial) (SaysYes atomic) (SaysYes relserial) (SaysYes conflict) (SaysPassed j)
-  pub deck-any-cuts : (s s′ : List ℕ) → OtherCuts s s′ → (conflict : Answered) (j : Judged) → TestCall ConflictSerializableHistory s conflict → DeckJudgeAnswers s′ j
+      → NestedDeckCalls serial atomic relserial conflict j
+  pub deck-any-cuts : (s s′ : List ℕ) → OtherCuts s s′ → (conflict : Answered) (j : Judged) → TestCall ConflictSerializableHistory s conflict → DeckJudgeAnswered s′ j
       → SaysYes conflict → SaysPassed j
   -- of the program's text, as `report` puts it into a buffer
-  pub text : (s before after : List ℕ) (n : ℕ) (p : Reports (read s) before after n) (w : Findings) → p .report ≡ accepted-with w
-      → Nested (w .serial ≡ true) (w .atomic ≡ true) (w .relserial ≡ true) (w .conflict ≡ true) (TextSaysPassed (w .verdict))
+  pub text : (s before after : List ℕ) (n : ℕ) (p : Reports (read s) before after n) (w : Findings) → p .report ≡ accepted-with w → NestedFindings w
   pub text-any-cuts : (s s′ : List ℕ) → OtherCuts s s′ → (before after before′ after′ : List ℕ) (n n′ : ℕ)
       → (p : Reports (read s) before after n) (p′ : Reports (read s′) before′ after′ n′) (w w′ : Findings) → p .report ≡ accepted-with w → p′ .report ≡ accepted-with w′
       → w .conflict ≡ true → TextSaysPassed (w′ .verdict)

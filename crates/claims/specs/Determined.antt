@@ -6,9 +6,8 @@ use mathlib.Core.Path.{_≡_}
 use mathlib.Core.Logic.{_≢_}
 use mathlib.Core.List.{List, []}
 use lib.ListN.{drop}
-use Rattle.theory.specs.Relative.{RelativelySerializable}
 use Rattle.book.specs.Format.{Contents, Outcome, accepted}
-use Rattle.book.specs.Meaning.{conflict-of, unit-of}
+use Rattle.book.specs.Meaning.{RelativelySerializableHistory}
 use Rattle.book.specs.Book.{ReadAs}
 use Rattle.judge.specs.Judged.{verdict-numbers}
 use Rattle.judge.specs.Judge.{BytesJudged}
@@ -80,7 +79,7 @@ pub record Determined : Type 1 where
   -- what lies behind the text is as before
   pub reporting-rest : (o : Outcome) (before x : List ℕ) (n : ℕ) → Reports o before x n → drop n x ≡ drop n before
   -- the buffer and the text's length, where no cycle is printed: the book is refused, or its history relatively serializable
-  pub reporting-uncyclic : (o : Outcome) (before : List ℕ) → ((c : Contents) → o ≡ accepted c → RelativelySerializable (conflict-of c) (unit-of c) (c .history)) → AtMostOnePair (Reports o before)
+  pub reporting-uncyclic : (o : Outcome) (before : List ℕ) → ((c : Contents) → o ≡ accepted c → RelativelySerializableHistory c) → AtMostOnePair (Reports o before)
   -- the same of the calls for C
   pub c-reading : (s : List ℕ) → AtMostOne (ReadCall s)
   pub c-judging : (s order order′ order″ cycle cycle′ cycle″ : List ℕ) (r r′ : Judged)

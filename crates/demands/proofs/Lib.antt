@@ -1,4 +1,4 @@
--- DeckHolder: the walk of the two functions that make a call for C on a record which they hold. Readings: the judge's answer to a book that was read. The
--- other functions cite the theorems of `claims`.
+-- DeckHolder: the walk of the two functions that make a call for C on a record which they hold. Readings: the judge's answer to a book that was read,
+-- and the answers of the calls for C. The other functions cite the theorems of `claims`.
 pub mod DeckHolder
 pub mod Readings

@@ -18,7 +18,7 @@ use Rattle.judge.proofs.Bytes.{refusal, refused-as, by-reading}
 use Rattle.capi.specs.Calls.{TestCall, JudgeCall}
 use Rattle.capi.specs.declared.Answered.{Answered}
 use Rattle.capi.specs.declared.Judged.{Judged}
-use Rattle.claims.specs.Classes.{JudgeAnswers, DeckClassesAnswered}
+use Rattle.claims.specs.Classes.{JudgeAnswered, DeckClassesAnswered}
 use Rattle.demands.specs.inner.Readings.{OutcomeAnswered}
 
 module _ (a : Answer) (b : Book) (r : Judgement) where
@@ -47,7 +47,7 @@ module _ (a : Answer) (b : Book) (r : Judgement) where
   })
 
 -- the judge's answer to the bytes is its answer to the book that was read
-pub reading-judged : (s : List ℕ) (d : Reading) → ReadAs (read s) d → (r : Judgement) → OutcomeAnswered (outcome-by (d .answer) (d .book)) r → JudgeAnswers s r
+pub reading-judged : (s : List ℕ) (d : Reading) → ReadAs (read s) d → (r : Judgement) → OutcomeAnswered (outcome-by (d .answer) (d .book)) r → JudgeAnswered s r
 reading-judged s d w r x = record {
   order = x .order;
   order′ = x .order′;

@@ -1,4 +1,4 @@
--- The demands, and that the classes are nested, of what the functions of this crate return: the results of the public calls.
+-- The demands, and that the classes are nested, of what the functions of this crate return: the results of the public calls, or answers as these promise them.
 use Prim.Native.Nat.{ℕ, _*_, _≤_}
 use mathlib.Core.Path.{_≡_}
 use mathlib.Core.Bool.{true}
@@ -22,7 +22,7 @@ use Rattle.capi.specs.declared.Answered.{Answered}
 use Rattle.capi.specs.declared.Judged.{Judged}
 use Rattle.claims.specs.Table.{BookRow, NoRow, JudgeRow, WriterRow, GateRow, ReplayRow}
 use Rattle.claims.specs.Demands.{TurnsAway, BuffersUnchanged, WithoutRuns, answered-numbers, judged-numbers, opened-numbers, Demand2}
-use Rattle.claims.specs.Classes.{Nested, OtherCuts, JudgeAnswers, ClassesAnswered, DeckJudgeAnswers, DeckClassesAnswered, SaysYes, SaysPassed, TextSaysPassed}
+use Rattle.claims.specs.Classes.{OtherCuts, JudgeAnswered, ClassesAnswered, DeckJudgeAnswered, DeckClassesAnswered, SaysYes, SaysPassed, TextSaysPassed, NestedCalls, NestedDeckCalls, NestedFindings}
 use Rattle.demands.specs.declared.BookAnswers.{BookAnswers}
 use Rattle.demands.specs.declared.ClassAnswers.{ClassAnswers}
 use Rattle.demands.specs.declared.DeckClassAnswers.{DeckClassAnswers}
@@ -79,20 +79,18 @@ pub record Demand3Of (s calls answers answers′ : List ℕ) (r : Replayed) : Ty
 -- of the answers that the calls promise
 pub record NestedAnswers (s : List ℕ) (r : ClassAnswers) : Type 0 where
   pub promised : ClassesAnswered s (r .serial) (r .atomic) (r .relserial) (r .conflict) (r .judgement)
-  pub nested : Nested (r .serial ≡ Yes) (r .atomic ≡ Yes) (r .relserial ≡ Yes) (r .conflict ≡ Yes) (r .judgement .verdict ≡ Passed)
-  pub any-cuts : (s′ : List ℕ) → OtherCuts s s′ → (j : Judgement) → JudgeAnswers s′ j → r .conflict ≡ Yes → j .verdict ≡ Passed
+  pub nested : NestedCalls (r .serial) (r .atomic) (r .relserial) (r .conflict) (r .judgement)
+  pub any-cuts : (s′ : List ℕ) → OtherCuts s s′ → (j : Judgement) → JudgeAnswered s′ j → r .conflict ≡ Yes → j .verdict ≡ Passed
 
--- the same of the calls for C, in buffers as long as the judge asks
-pub record NestedDeckAnswers (s order cycle : List ℕ) (r : DeckClassAnswers) : Type 0 where
-  pub promised : step-limit ≤ length order → step-limit ≤ length cycle → DeckClassesAnswered s (r .serial) (r .atomic) (r .relserial) (r .conflict) (r .judged)
-  pub nested : step-limit ≤ length order → step-limit ≤ length cycle
-      → Nested (SaysYes (r .serial)) (SaysYes (r .atomic)) (SaysYes (r .relserial)) (SaysYes (r .conflict)) (SaysPassed (r .judged))
-  pub any-cuts : (s′ : List ℕ) → OtherCuts s s′ → (j : Judged) → DeckJudgeAnswers s′ j → SaysYes (r .conflict) → SaysPassed j
+-- the same of the calls for C
+pub record NestedDeckAnswers (s : List ℕ) (r : DeckClassAnswers) : Type 0 where
+  pub promised : DeckClassesAnswered s (r .serial) (r .atomic) (r .relserial) (r .conflict) (r .judged)
+  pub nested : NestedDeckCalls (r .serial) (r .atomic) (r .relserial) (r .conflict) (r .judged)
+  pub any-cuts : (s′ : List ℕ) → OtherCuts s s′ → (j : Judged) → DeckJudgeAnswered s′ j → SaysYes (r .conflict) → SaysPassed j
 
 -- the same of the program's text, in the buffer before and after the call
 pub record NestedText (s before after : List ℕ) (n : ℕ) : Type 0 where
   pub promised : Reports (read s) before after n
-  pub nested : (w : Findings) → promised .report ≡ accepted-with w
-      → Nested (w .serial ≡ true) (w .atomic ≡ true) (w .relserial ≡ true) (w .conflict ≡ true) (TextSaysPassed (w .verdict))
+  pub nested : (w : Findings) → promised .report ≡ accepted-with w → NestedFindings w
   pub any-cuts : (s′ : List ℕ) → OtherCuts s s′ → (before′ after′ : List ℕ) (n′ : ℕ) (p′ : Reports (read s′) before′ after′ n′) (w w′ : Findings)
       → promised .report ≡ accepted-with w → p′ .report ≡ accepted-with w′ → w .conflict ≡ true → TextSaysPassed (w′ .verdict)

@@ -243,15 +243,17 @@ pub struct DeckClassAnswers {
 }
 
 // The five classes of one book, by the calls for C.
-pub fn nested_deck_classes(s: &[u8], order: &mut [u8], cycle: &mut [u8]) -> DeckClassAnswers
-    ensures { λ r. ⌜ NestedDeckAnswers (now (s .entry)) (now (order .entry)) (now (cycle .entry)) r ⌝ }
+pub fn nested_deck_classes(s: &[u8]) -> DeckClassAnswers
+    ensures { λ r. ⌜ NestedDeckAnswers (now (s .entry)) r ⌝ }
 {
+    let mut order = [0u8; Book::STEPS];
+    let mut cycle = [0u8; Book::STEPS];
     DeckClassAnswers {
         serial: capi::deck_serial(s),
         atomic: capi::deck_atomic(s),
         relserial: capi::deck_relserial(s),
         conflict: capi::deck_conflict(s),
-        judged: capi::deck_judge(s, order, cycle),
+        judged: capi::deck_judge(s, &mut order, &mut cycle),
     }
 }
 

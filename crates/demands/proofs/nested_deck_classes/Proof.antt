@@ -1,4 +1,5 @@
 -- Each answer meets its call's contract, and answers that do are nested.
+use native.Mathlib.Omega.{arith}
 use Rattle.claims.proofs.Classes.{classes-nested}
 use Rattle.demands.proofs.Readings.{deck-answered}
 use borrow.Author.Needs.{needs}
@@ -17,26 +18,26 @@ deck-relserial-requires c κs = search needs
 deck-conflict-requires : tie.Need-deck-conflict-requires
 deck-conflict-requires c κs = search needs
 
+slice-aggregate-deck-judge : tie.Need-slice-aggregate-deck-judge
+slice-aggregate-deck-judge c = search needs
+
+slice-aggregate-deck-judge-2 : tie.Need-slice-aggregate-deck-judge-2
+slice-aggregate-deck-judge-2 c = search needs
+
 deck-judge-requires : tie.Need-deck-judge-requires
 deck-judge-requires c κs = search needs
 
-same-length : tie.Need-same-length
-same-length c = search needs
-
-same-length-2 : tie.Need-same-length-2
-same-length-2 c = search needs
-
 returns : tie.Need-returns
 returns c =
-    let judge = c .before .before .before .before in
+    let judge = c .before .before in
     let conflict = judge .before .before .before in
     let relserial = conflict .before in
     let atomic = relserial .before in
-    let answers = deck-answered (atomic .before .deck-serial .ensures) (atomic .deck-atomic .ensures) (relserial .deck-relserial .ensures) (conflict .deck-conflict .ensures) (judge .deck-judge .ensures) in
+    let answers = deck-answered (atomic .before .deck-serial .ensures) (atomic .deck-atomic .ensures) (relserial .deck-relserial .ensures) (conflict .deck-conflict .ensures) (judge .deck-judge .ensures) (omega arith) (omega arith) in
     record {
       promised = answers;
-      nested = λ a b. classes-nested .deck-calls _ _ _ _ _ _ (answers a b);
-      any-cuts = λ s′ o j w. classes-nested .deck-any-cuts _ s′ o _ j (conflict .deck-conflict .ensures) w;
+      nested = classes-nested .deck-calls _ _ _ _ _ _ answers;
+      any-cuts = λ s′ o j w. classes-nested .deck-any-cuts _ s′ o _ j (answers .conflict-is) w;
     }
 
 pub nested-deck-classes-spec : {M : Type 1} → statement M
@@ -47,7 +48,7 @@ nested-deck-classes-spec =
     deck-atomic-requires
     deck-relserial-requires
     deck-conflict-requires
+    slice-aggregate-deck-judge
+    slice-aggregate-deck-judge-2
     deck-judge-requires
-    same-length
-    same-length-2
     returns)
