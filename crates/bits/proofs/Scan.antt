@@ -1,18 +1,16 @@
 -- Laws of a search through the words of a row, upwards by their trailing zeros and downwards by their leading zeros.
 use mathlib.Core.Path.{_≡_, refl, sym, ap, _∙_}
 use mathlib.Core.Bool.{true, false, true≢false}
-use Prim.Native.Nat.{ℕ, _+_, _-_, _*_, _/_, _%_, _≤_, _<_, min}
+use Prim.Native.Nat.{ℕ, _+_, _-_, _*_, _/_, _%_, _≤_, _<_}
 use native.Mathlib.Decide.{decLt}
 use native.Mathlib.Omega.{arith}
 use lib.Count.{trailingZeros}
-use mathlib.Core.List.{List}
-use lib.ListN.{getD}
-use Rattle.bits.specs.Table.{row-words, row-bits, bit, bit-at, intersection, difference, Subset}
+use Rattle.bits.specs.Table.{row-words, row-bits, bit, difference, Subset}
 use Rattle.bits.specs.First.{FirstAt, NoColumn}
 use Rattle.bits.specs.Last.{LastAt}
 use Rattle.bits.specs.inner.Words.{BitLength}
 use Rattle.bits.proofs.Word.{trailing-at, trailing-below}
-use Rattle.bits.proofs.Store.{at-column, in-words}
+use Rattle.bits.proofs.Store.{at-column}
 
 -- b is the first bit of the word w, or w has none and b is 64 or more
 pub record Lowest (w b : ℕ) : Type 0 where
@@ -66,8 +64,9 @@ none-above-start f = record { within = omega arith; none = λ j l h. omega arith
 pub none-above-end : {f : ℕ → ℕ} {k : ℕ} → k ≤ 0 → NoneAbove f k → NoColumn f
 none-above-end h p = record { none = λ j r. p .none j (omega arith) r }
 
--- g is the part of f in the word k - 1, and b its length
-module _ {f g : ℕ → ℕ} {k b : ℕ} (n : NoneAbove f k) (hk : 0 < k) (l : BitLength g b) (part : (c : ℕ) → c / 64 ≡ k - 1 → g (c % 64) ≡ f c) where
+-- b is the length of the word w, which holds the columns of f in the word k - 1
+module _ {f : ℕ → ℕ} {k w b : ℕ} (n : NoneAbove f k) (hk : 0 < k) (l : BitLength w b)
+    (word : (c : ℕ) → c / 64 ≡ k - 1 → bit w (c % 64) ≡ f c) where
   none-after : (j : ℕ) → 64 * (k - 1) + b ≤ j → j < row-bits → f j ≡ 0
   none-after j a r = go (decLt j (64 * k))
     where
@@ -75,7 +74,7 @@ module _ {f g : ℕ → ℕ} {k b : ℕ} (n : NoneAbove f k) (hk : 0 < k) (l : B
       go (no q) = n .none j (omega arith) r
       go (yes q) =
           let e : 64 * (k - 1) + (j - 64 * (k - 1)) ≡ j = omega arith in
-          ap f (sym e) ∙ sym (at-column f g (k - 1) part (j - 64 * (k - 1)) (omega arith))
+          ap f (sym e) ∙ sym (at-column f (bit w) (k - 1) word (j - 64 * (k - 1)) (omega arith))
           ∙ l .after (j - 64 * (k - 1)) (omega arith) (omega arith)
 
   pub last-at : 0 < b → LastAt f (64 * (k - 1) + b - 1)
@@ -83,21 +82,12 @@ module _ {f g : ℕ → ℕ} {k b : ℕ} (n : NoneAbove f k) (hk : 0 < k) (l : B
     in-row = omega (arith, n .within, l .in-word);
     here =
         let e : 64 * (k - 1) + (b - 1) ≡ 64 * (k - 1) + b - 1 = omega arith in
-        ap f (sym e) ∙ sym (at-column f g (k - 1) part (b - 1) (omega (arith, l .in-word))) ∙ l .here hb;
+        ap f (sym e) ∙ sym (at-column f (bit w) (k - 1) word (b - 1) (omega (arith, l .in-word))) ∙ l .here hb;
     after = λ j a h. none-after j (omega arith) h;
   }
 
   pub none-above-more : b ≤ 0 → NoneAbove f (k - 1)
   none-above-more hb = record { within = omega (arith, n .within); none = λ j a h. none-after j (omega arith) h }
-
--- the words of a row and of a mask
-module _ (t mask : List ℕ) (row k b : ℕ) (n : NoneAbove (intersection (bit-at t row) (bit-at mask 0)) k) (hk : 0 < k)
-    (l : BitLength (intersection (bit (getD t (row-words * row + (k - 1)) 0)) (bit (getD mask (k - 1) 0))) b) where
-  pub within-at : 0 < b → LastAt (intersection (bit-at t row) (bit-at mask 0)) (64 * (k - 1) + b - 1)
-  within-at = last-at n hk l (λ c e. in-words min t mask row (k - 1) c e)
-
-  pub within-more : b ≤ 0 → NoneAbove (intersection (bit-at t row) (bit-at mask 0)) (k - 1)
-  within-more = none-above-more n hk l (λ c e. in-words min t mask row (k - 1) c e)
 
 -- ---- a set within another
 

@@ -1,14 +1,14 @@
--- Laws of the bits of a table: in a word, in a table of zeros, after a store, while a row is replaced or copied word by word.
+-- Laws of the bits of a table: in a word, in a table of zeros, after a store, while a row is replaced word by word.
 use mathlib.Core.Path.{_≡_, refl, sym, ap, ap₂, _∙_}
 use mathlib.Core.List.{List}
-use Prim.Native.Nat.{ℕ, zero, suc, _+_, _*_, _/_, _%_, _^_, _≤_, _<_, max}
+use Prim.Native.Nat.{ℕ, zero, suc, _+_, _*_, _/_, _%_, _^_, _≤_, _<_}
 use native.Mathlib.Decide.{ℕ-discrete}
 use native.Mathlib.Omega.{arith}
 use lib.Bits.{bitAnd, bitOr, and-mask}
 use lib.ListN.{length, getD, set, length-set, replicate}
 use lib.Seq.{getD-set-same, getD-set-other}
-use Rattle.bits.specs.Table.{row-words, row-bits, bit, bit-at, union, Marked, Replaced, RowCopied}
-use Rattle.bits.proofs.Word.{bit-lt, bit-or, bit-zero, set-here, set-other}
+use Rattle.bits.specs.Table.{row-words, row-bits, bit, bit-at, Marked, Replaced, RowCopied}
+use Rattle.bits.proofs.Word.{bit-lt, bit-zero, set-here, set-other}
 
 pub bit-at-lt : (t : List ℕ) (row col : ℕ) → bit-at t row col < 2
 unfolding bit-at
@@ -19,11 +19,18 @@ pub in-word : (t : List ℕ) (i row col : ℕ) → row-words * row + col / 64 �
 unfolding bit-at
 in-word t i row col e = ap (λ (x : ℕ). bit (getD t x 0) (col % 64)) (sym e)
 
--- the same of a word of a row and one of a mask, joined by op
-pub in-words : (op : ℕ → ℕ → ℕ) (t m : List ℕ) (row k c : ℕ) → c / 64 ≡ k
-    → op (bit (getD t (row-words * row + k) 0) (c % 64)) (bit (getD m k 0) (c % 64)) ≡ op (bit-at t row c) (bit-at m 0 c)
-in-words op t m row k c e =
-    ap₂ op (in-word t (row-words * row + k) row c (omega arith)) (in-word m k 0 c (omega arith))
+-- the same of the word w that op makes of the word k of a row and that of a mask
+pub in-words : (op : ℕ → ℕ → ℕ) (t m : List ℕ) (i row k w : ℕ) → row-words * row + k ≡ i
+    → ((j : ℕ) → j < 64 → bit w j ≡ op (bit (getD t i 0) j) (bit (getD m k 0) j))
+    → (c : ℕ) → c / 64 ≡ k → bit w (c % 64) ≡ op (bit-at t row c) (bit-at m 0 c)
+in-words op t m i row k w at bits c e =
+    bits (c % 64) (omega arith) ∙ ap₂ op (in-word t i row c (omega arith)) (in-word m k 0 c (omega arith))
+
+-- where two tables have the same word, they have the same bits
+same-word : (t u : List ℕ) (row col : ℕ) → getD u (row-words * row + col / 64) 0 ≡ getD t (row-words * row + col / 64) 0
+    → bit-at u row col ≡ bit-at t row col
+unfolding bit-at
+same-word t u row col e = ap (λ (x : ℕ). bit x (col % 64)) e
 
 -- g is the part of f in the word k
 pub at-column : (f g : ℕ → ℕ) (k : ℕ) → ((c : ℕ) → c / 64 ≡ k → g (c % 64) ≡ f c) → (j : ℕ) → j < 64 → g j ≡ f (64 * k + j)
@@ -51,12 +58,15 @@ store-same : (t : List ℕ) (i v row col : ℕ) → i < length t → row-words *
 store-same t i v row col h e = sym (in-word (set t i v) i row col e) ∙ ap (λ (x : ℕ). bit x (col % 64)) (getD-set-same t i v 0 h)
 
 store-other : (t : List ℕ) (i v row col : ℕ) → (row-words * row + col / 64 ≡ i → ⊥) → bit-at (set t i v) row col ≡ bit-at t row col
-unfolding bit-at
-store-other t i v row col h = ap (λ (x : ℕ). bit x (col % 64)) (getD-set-other t i (row-words * row + col / 64) v 0 h)
+store-other t i v row col h = same-word t (set t i v) row col (getD-set-other t i (row-words * row + col / 64) v 0 h)
 
 pub marked-by : (t : List ℕ) (i row col : ℕ) → i < length t → col < row-bits → row-words * row + col / 64 ≡ i
     → Marked t (set t i (bitOr (getD t i 0) (1 * 2 ^ (col % 64) % 2 ^ 64))) row col
-marked-by t i row col hi hc at = record { here = here; other = other }
+marked-by t i row col hi hc at = record {
+  here = here;
+  other = other;
+  words = λ j ne. getD-set-other t i j v 0 (λ e. ne (omega arith));
+}
   where
     v : ℕ
     v = bitOr (getD t i 0) (1 * 2 ^ (col % 64) % 2 ^ 64)
@@ -80,60 +90,56 @@ marked-by t i row col hi hc at = record { here = here; other = other }
 pub record ReplacedUpTo (t u : List ℕ) (dst : ℕ) (f : ℕ → ℕ) (k : ℕ) : Type 0 where
   pub size : length u ≡ length t
   pub here : (c : ℕ) → c < 64 * k → bit-at u dst c ≡ f c
-  pub other : (r c : ℕ) → c < row-bits → ((r ≡ dst) × (c < 64 * k) → ⊥) → bit-at u r c ≡ bit-at t r c
+  pub words : (i : ℕ) → ((i / row-words ≡ dst) × (i % row-words < k) → ⊥) → getD u i 0 ≡ getD t i 0
 
 pub replaced-none : (t : List ℕ) (dst : ℕ) (f : ℕ → ℕ) → ReplacedUpTo t t dst f 0
-replaced-none t dst f = record { size = refl; here = λ c h. omega arith; other = λ r c h ne. refl }
+replaced-none t dst f = record { size = refl; here = λ c h. omega arith; words = λ i ne. refl }
 
 pub replaced-all : {t u : List ℕ} {dst : ℕ} {f : ℕ → ℕ} {k : ℕ} → row-words ≤ k → ReplacedUpTo t u dst f k → Replaced t u dst f
-replaced-all {k = k} l b = record { here = λ c h. b .here c (omega arith); other = λ r c h ne. b .other r c h (λ q. ne (q .0)) }
-
--- the next word, whose bits are those of f at its columns
-pub replaced-more : (t u : List ℕ) (dst : ℕ) (f : ℕ → ℕ) (k v : ℕ) → row-words * dst + k < length t → k < row-words → ReplacedUpTo t u dst f k
-    → ((c : ℕ) → c / 64 ≡ k → bit v (c % 64) ≡ f c) → ReplacedUpTo t (set u (row-words * dst + k) v) dst f (k + 1)
-replaced-more t u dst f k v hi hk b word = record { size = length-set u i v ∙ b .size; here = here; other = other }
+replaced-all {t} {u} {dst} {f} {k} l b = record {
+  here = λ c h. b .here c (omega arith);
+  other = λ r c h ne. same-word t u r c (words (row-words * r + c / 64) (λ e. ne (omega arith)));
+  words = words;
+}
   where
-    i : ℕ
-    i = row-words * dst + k
+    words : (i : ℕ) → (i / row-words ≡ dst → ⊥) → getD u i 0 ≡ getD t i 0
+    words i ne = b .words i (λ q. ne (q .0))
 
-    hu : i < length u
-    hu = omega (arith, b .size)
-
+-- the word i, the next one of the row dst, is stored, and its bits are those of f at its columns
+pub replaced-more : (t u : List ℕ) (dst : ℕ) (f : ℕ → ℕ) (k i v : ℕ) → row-words * dst + k ≡ i → i < length t → k < row-words
+    → ReplacedUpTo t u dst f k → ((c : ℕ) → c / 64 ≡ k → bit v (c % 64) ≡ f c) → ReplacedUpTo t (set u i v) dst f (k + 1)
+replaced-more t u dst f k i v at hi hk b word = record {
+  size = length-set u i v ∙ b .size;
+  here = here;
+  words = λ j ne. getD-set-other u i j v 0 (λ e. ne (omega arith, omega arith)) ∙ b .words j (λ q. ne (q .0, omega arith));
+}
+  where
     here : (c : ℕ) → c < 64 * (k + 1) → bit-at (set u i v) dst c ≡ f c
     here c h = go (ℕ-discrete (c / 64) k)
       where
         go : Dec (c / 64 ≡ k) → bit-at (set u i v) dst c ≡ f c
-        go (yes e) = store-same u i v dst c hu (omega arith) ∙ word c e
+        go (yes e) = store-same u i v dst c (omega (arith, b .size)) (omega arith) ∙ word c e
         go (no n) = store-other u i v dst c (λ e. n (omega arith)) ∙ b .here c (omega arith)
 
-    other : (r c : ℕ) → c < row-bits → ((r ≡ dst) × (c < 64 * (k + 1)) → ⊥) → bit-at (set u i v) r c ≡ bit-at t r c
-    other r c h ne =
-        store-other u i v r c (λ e. ne (omega arith, omega arith)) ∙ b .other r c h (λ q. ne (q .0, omega arith))
-
 -- the columns of the word k are still those of t, in every row
-pub kept : {t u : List ℕ} {dst : ℕ} {f : ℕ → ℕ} {k : ℕ} (row c : ℕ) → k < row-words → c / 64 ≡ k → ReplacedUpTo t u dst f k
-    → bit (getD u (row-words * row + k) 0) (c % 64) ≡ bit-at t row c
-kept {t} {u} {dst} {f} {k} row c hk e b =
-    in-word u (row-words * row + k) row c (omega arith) ∙ b .other row c (omega arith) (λ q. omega arith)
+pub kept : {t u : List ℕ} {dst : ℕ} {f : ℕ → ℕ} {k : ℕ} (i row c : ℕ) → row-words * row + k ≡ i → k < row-words → c / 64 ≡ k
+    → ReplacedUpTo t u dst f k → bit (getD u i 0) (c % 64) ≡ bit-at t row c
+kept {t} {u} {dst} {f} {k} i row c at hk e b =
+    ap (λ (x : ℕ). bit x (c % 64)) (b .words i (λ q. omega arith)) ∙ in-word t i row c (omega arith)
 
--- the next word of the union with g, of which the word x holds the columns of the word k
-pub union-more : (t u : List ℕ) (dst : ℕ) (g : ℕ → ℕ) (k x : ℕ) → row-words * dst + k < length t → k < row-words
-    → ReplacedUpTo t u dst (union (bit-at t dst) g) k → ((c : ℕ) → c / 64 ≡ k → bit x (c % 64) ≡ g c)
-    → ReplacedUpTo t (set u (row-words * dst + k) (bitOr (getD u (row-words * dst + k) 0) x)) dst (union (bit-at t dst) g) (k + 1)
-union-more t u dst g k x hi hk b word =
-    replaced-more t u dst (union (bit-at t dst) g) k (bitOr (getD u (row-words * dst + k) 0) x) hi hk b
-    (λ c e. bit-or (getD u (row-words * dst + k) 0) x (c % 64) ∙ ap₂ max (kept dst c hk e b) (word c e))
+-- the row is combined with g by op: the word v is made by op of the word that was there and of x, which holds the columns of g in the word k
+pub combined-more : (op : ℕ → ℕ → ℕ) (t u : List ℕ) (dst : ℕ) (g : ℕ → ℕ) (k i v x : ℕ) → row-words * dst + k ≡ i → i < length t → k < row-words
+    → ReplacedUpTo t u dst (λ c. op (bit-at t dst c) (g c)) k → ((j : ℕ) → bit v j ≡ op (bit (getD u i 0) j) (bit x j))
+    → ((c : ℕ) → c / 64 ≡ k → bit x (c % 64) ≡ g c) → ReplacedUpTo t (set u i v) dst (λ c. op (bit-at t dst c) (g c)) (k + 1)
+combined-more op t u dst g k i v x at hi hk b bits word =
+    replaced-more t u dst (λ c. op (bit-at t dst c) (g c)) k i v at hi hk b
+    (λ c e. bits (c % 64) ∙ ap₂ op (kept i dst c at hk e b) (word c e))
 
--- ---- a row copied word by word
+-- the word i of the row dst is made the word j of the row src of s
+pub copied-more : (t u s : List ℕ) (dst src k i j : ℕ) → row-words * dst + k ≡ i → row-words * src + k ≡ j → i < length t → k < row-words
+    → ReplacedUpTo t u dst (bit-at s src) k → ReplacedUpTo t (set u i (getD s j 0)) dst (bit-at s src) (k + 1)
+copied-more t u s dst src k i j at from hi hk b =
+    replaced-more t u dst (bit-at s src) k i (getD s j 0) at hi hk b (λ c e. in-word s j src c (omega arith))
 
-pub copied-none : (t m : List ℕ) (row : ℕ) → length m ≡ row-words → ReplacedUpTo m m 0 (bit-at t row) 0
-copied-none t m row e = replaced-none m 0 (bit-at t row)
-
-pub copied-more : (z t m : List ℕ) (row k : ℕ) → k < row-words → length m ≡ row-words → ReplacedUpTo z m 0 (bit-at t row) k
-    → ReplacedUpTo z (set m k (getD t (row-words * row + k) 0)) 0 (bit-at t row) (k + 1)
-copied-more z t m row k hk e b =
-    let i : row-words * 0 + k ≡ k = omega arith in
-    rw i at (replaced-more z m 0 (bit-at t row) k (getD t (row-words * row + k) 0) (omega (arith, b .size)) hk b (λ c q. in-word t (row-words * row + k) row c (omega arith)))
-
-pub copied-all : (z t m : List ℕ) (row k : ℕ) → row-words ≤ k → ReplacedUpTo z m 0 (bit-at t row) k → RowCopied t row m
-copied-all z t m row k h b = record { same = λ c hc. b .here c (omega arith) }
+pub copied-all : {z t m : List ℕ} {row k : ℕ} → row-words ≤ k → ReplacedUpTo z m 0 (bit-at t row) k → RowCopied t row m
+copied-all l b = record { same = λ c h. b .here c (omega arith) }

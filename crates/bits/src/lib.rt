@@ -93,6 +93,39 @@ pub fn join_within(t: &mut Table, dst: usize, u: &Table, src: usize, mask: &Row)
     }
 }
 
+// Adds the columns of the row of t to the row m.
+pub fn add_row(m: &mut Row, t: &Table, row: usize)
+    requires { ⌜ row < rows ⌝ }
+    ensures { λ r. ⌜ Replaced (now (m .entry)) (now (m .exit)) 0 (union (bit-at (now (m .entry)) 0) (bit-at (now (t .entry)) row)) ⌝ }
+{
+    sized_row(*m);
+    for k in 0..ROW_WORDS {
+        m[k] = m[k] | t[ROW_WORDS * row + k];
+    }
+}
+
+// Leaves in the row m only the columns of the row of t.
+pub fn keep_row(m: &mut Row, t: &Table, row: usize)
+    requires { ⌜ row < rows ⌝ }
+    ensures { λ r. ⌜ Replaced (now (m .entry)) (now (m .exit)) 0 (intersection (bit-at (now (m .entry)) 0) (bit-at (now (t .entry)) row)) ⌝ }
+{
+    sized_row(*m);
+    for k in 0..ROW_WORDS {
+        m[k] = m[k] & t[ROW_WORDS * row + k];
+    }
+}
+
+// Replaces the row of t by the row m.
+pub fn set_row(t: &mut Table, row: usize, m: &Row)
+    requires { ⌜ row < rows ⌝ }
+    ensures { λ r. ⌜ Replaced (now (t .entry)) (now (t .exit)) row (bit-at (now (m .entry)) 0) ⌝ }
+{
+    sized(*t);
+    for k in 0..ROW_WORDS {
+        t[ROW_WORDS * row + k] = m[k];
+    }
+}
+
 // The bits of w that are not in m.
 fn outside(w: u64, m: u64) -> u64
     ensures { λ r. ⌜ ((b : ℕ) → b < 64 → bit r b ≡ difference (bit w) (bit m) b) ⌝ }
@@ -125,11 +158,11 @@ pub fn within(t: &Table, row: usize, mask: &Row) -> bool
     }
 }
 
-// One more than the last bit that w and m have in common, or 0 where there is none.
-fn common_length(w: u64, m: u64) -> usize
-    ensures { λ r. ⌜ BitLength (intersection (bit w) (bit m)) r ⌝ }
+// One more than the last bit of w, or 0 where there is none.
+fn length_of(w: u64) -> usize
+    ensures { λ r. ⌜ BitLength w r ⌝ }
 {
-    64 - u64::leading_zeros(w & m) as usize
+    64 - u64::leading_zeros(w) as usize
 }
 
 // The last marked column of the row that is in the mask.
@@ -140,9 +173,24 @@ pub fn last_within(t: &Table, row: usize, mask: &Row) -> Found
     let mut k = ROW_WORDS;
     while k > 0 {
         k -= 1;
-        let n = common_length(t[ROW_WORDS * row + k], mask[k]);
+        let n = length_of(t[ROW_WORDS * row + k] & mask[k]);
         if n > 0 {
             return Found::At(64 * k + n - 1);
+        }
+    }
+    Found::Nothing
+}
+
+// The last column of the row m that is not in the row o.
+pub fn last_outside(m: &Row, o: &Row) -> Found
+    ensures { λ r. ⌜ Last (difference (bit-at (now (m .entry)) 0) (bit-at (now (o .entry)) 0)) r ⌝ }
+{
+    let mut k = ROW_WORDS;
+    while k > 0 {
+        k -= 1;
+        let len = length_of(outside(m[k], o[k]));
+        if len > 0 {
+            return Found::At(64 * k + len - 1);
         }
     }
     Found::Nothing

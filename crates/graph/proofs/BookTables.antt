@@ -25,12 +25,11 @@ use Rattle.theory.specs.Deck.{Step, Cut, step-of, steps-conflict, conflict, uni
 use Rattle.theory.proofs.Places.{Compared, eq-cases, ordinal-lt}
 use Rattle.graph.specs.Marks.{Marks}
 use Rattle.graph.specs.Units.{UnchangedFrom, UnitTables}
-use Rattle.graph.specs.Dependence.{Links, StepsRead}
-use Rattle.graph.specs.inner.Tables.{Small, HistoryOf, Declared, Starts, StepsRoom, StepsByPlace, step-in, Link, Counts, CutsOf, EachBy}
+use Rattle.graph.specs.inner.Tables.{Small, HistoryOf, Declared, Starts, StepsRoom, step-in, Counts, CutsOf, EachBy}
+use Rattle.graph.specs.inner.Catalogue.{HistoryRead}
 use Rattle.graph.specs.inner.Arcs.{TablesOf, ArcRows}
 use Rattle.graph.proofs.Counting.{history-length, history-run, history-small}
 use Rattle.theory.proofs.Lists.{sum-take, sum-take-le, sum-front}
-use Rattle.graph.proofs.DependenceRows.{steps-marks}
 
 -- ---- cuts
 
@@ -92,10 +91,6 @@ cuts-of cuts = record {
     next r o i ho hi = unit-next (flagged 0 cuts) r o i ho hi ∙ ap (λ (x : ℕ). unit (map cut-of (flagged 0 cuts)) r o i + x) (count-flagged cuts (r * run-cuts + suc i * run-limit + o))
 
 -- ---- steps
-
-both-last : (c d : Bool) → T (c && d) → T d
-both-last true d t = t
-both-last false d t = absurd t
 
 abbrev no-step : Step
 no-step = record { kind = 0; position = 0 }
@@ -187,43 +182,12 @@ module _ (b : Book) (v : Valid b) where
         lasts-unchanged = rw e lk;
       }
 
-  -- ---- direct dependence
+  -- ---- dependence
 
-  module _ (starts steps-at : List ℕ) (s : Starts (b .lengths) starts) (w : StepsByPlace h starts (b .steps) steps-at (b .done)) where
-    place-step : (p : ℕ) → p < length h → step-of (contents-of b .runs) (run h p) (ordinal h p) ≡ step-in steps-at p
-    place-step p i =
-        let j : p < b .done = rw (← history-length book-history) i in
-        step-is p i starts s ∙ ap step-coded (sym (w .at p j))
-
-    link-is : (p q : ℕ) → p < length h → q < length h
-        → conflict-of (contents-of b) (run h p) (ordinal h p) (run h q) (ordinal h q)
-        ≡ (not (eqb (run h p) (run h q)) && steps-conflict (pairs-of (b .pairs)) (step-in steps-at p) (step-in steps-at q))
-    unfolding conflict contents-of
-    link-is p q ip iq = rw (place-step p ip, place-step q iq)
-
-    pub book-links : Links (Link (b .history) steps-at (b .pairs)) (conflict-of (contents-of b)) h
-    book-links = record {
-      sound = λ p q k i l. sound-at p q (omega arith) i l (ℕ-discrete (run h p) (run h q));
-      complete = λ p q k i l. complete-at p q (omega arith) i l;
-    }
-      where
-        run-is : (p : ℕ) → p < length h → run h p ≡ getD (b .history) p 0
-        run-is p i = history-run (b .history) (b .done) p (rw (← history-length book-history) i)
-
-        sound-at : (p q : ℕ) → p < length h → q < length h → Link (b .history) steps-at (b .pairs) p q → Dec (run h p ≡ run h q)
-            → (run h p ≡ run h q) ⊎ Conflicting (conflict-of (contents-of b)) h p q
-        sound-at p q ip iq l (yes e) = inl e
-        sound-at p q ip iq (inl e) (no n) = inl (run-is p ip ∙ e ∙ sym (run-is q iq))
-        sound-at p q ip iq (inr c) (no n) = inr (rw (link-is p q ip iq, ne-eqb (run h p) (run h q) n) c)
-
-        complete-at : (p q : ℕ) → p < length h → q < length h
-            → (run h p ≡ run h q) ⊎ Conflicting (conflict-of (contents-of b)) h p q → Link (b .history) steps-at (b .pairs) p q
-        complete-at p q ip iq (inl e) = inl (sym (run-is p ip) ∙ e ∙ run-is q iq)
-        complete-at p q ip iq (inr t) = inr (both-last (not (eqb (run h p) (run h q))) (steps-conflict (pairs-of (b .pairs)) (step-in steps-at p) (step-in steps-at q)) (rw (link-is p q ip iq) at t))
-
-    pub book-dependences : (dep : List ℕ) → StepsRead (Link (b .history) steps-at (b .pairs)) dep (b .done) → Marks (Depends (conflict-of (contents-of b)) (contents-of b .history)) dep
-    unfolding contents-of
-    book-dependences dep r = steps-marks (Link (b .history) steps-at (b .pairs)) (conflict-of (contents-of b)) h dep (b .done) book-links (sym (history-length book-history)) r
+  pub book-dependences : (starts dep : List ℕ) → Starts (b .lengths) starts → HistoryRead (b .pairs) h starts (b .steps) dep
+      → Marks (Depends (conflict-of (contents-of b)) (contents-of b .history)) dep
+  unfolding contents-of
+  book-dependences starts dep s r = r .rows (contents-of b .runs) (record { at = λ p i. step-is p i starts s })
 
   -- ---- arcs
 

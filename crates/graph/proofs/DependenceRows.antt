@@ -1,189 +1,238 @@
--- Rows of the dependence table. Row q takes the places below q from the last down. A place that the row marks already adds nothing,
--- since with a place the row has all that the place depends on.
-use Prim.Native.Nat.{ℕ, _+_, _-_, _≤_, _<_, max}
-use native.Mathlib.Decide.{ℕ-discrete}
+-- The dependence table, one row after another. A row takes the places on which its place directly depends, from the last down, each with what
+-- it depends on. A place that the row has already adds nothing, since with a place the row has all that the place depends on.
+use Prim.Native.Nat.{ℕ, suc, _+_, _-_, _≤_, _<_, max}
+use native.Mathlib.Decide.{ℕ-discrete, decLt}
+use native.Mathlib.Numerals.{add-one}
 use native.Mathlib.Omega.{arith}
 use mathlib.Core.Path.{_≡_, refl, sym, ap, _∙_}
 use mathlib.Core.Logic.{_⊎_, inl, inr, _≢_}
-use mathlib.Core.Bool.{Bool, true, false, true≢false}
-use mathlib.Core.List.{List}
+use mathlib.Core.Bool.{Bool, true, false, _&&_, not}
+use mathlib.Core.List.{List, [], _∷_, _++_}
 use lib.ListN.{length, replicate}
-use lib.Dec.{eqb}
-use borrow.Author.Tests.{eqb-true}
-use Rattle.bits.specs.Table.{row-bits, rows, bit-at, union, Marked, Replaced}
+use lib.Dec.{T, eqb}
+use borrow.Author.Tests.{ne-eqb}
+use Rattle.bits.specs.Table.{row-bits, rows, bit-at, union, difference, Marked, Replaced}
+use Rattle.bits.specs.First.{NoColumn}
+use Rattle.bits.specs.Last.{LastAt, Last}
+use Rattle.bits.specs.declared.Found.{Found}
+use Rattle.bits.specs.declared.Found.the-variants.{At, Nothing}
 use Rattle.bits.proofs.Store.{bit-at-lt, zeros-bit}
-use Rattle.theory.specs.Relative.{DirectlyDepends, Depends, direct, through}
+use Rattle.theory.specs.History.{count, run, ordinal}
+use Rattle.theory.specs.Deck.{Pair, Step, step-of, steps-conflict, conflict}
+use Rattle.theory.specs.Relative.{Conflicting, DirectlyDepends, Depends, direct, through}
+use Rattle.theory.proofs.Lists.{length-snoc}
 use Rattle.theory.proofs.Steps.{dep-inside}
-use Rattle.theory.specs.Answers.{Answers}
+use Rattle.theory.proofs.Within.{front, front-depends, depends-front}
+use Rattle.book.specs.Format.{kind-limit}
+use Rattle.book.specs.Book.{pairs-of}
 use Rattle.graph.specs.Marks.{Marks}
-use Rattle.graph.specs.Dependence.{DependsSoFar, Links, StepsRead, StepRead}
-use Rattle.graph.specs.inner.Tables.{Fresh}
-use Rattle.graph.proofs.Counting.{low, clash, below-next}
+use Rattle.graph.specs.Dependence.{StepsRead, StepRead, step-at}
+use Rattle.graph.specs.inner.Catalogue.{parts, Entered, Finds, Linked, DependsSoFar, DirectRow, DependenceRow, RowFrom}
+use Rattle.graph.proofs.Counting.{low, clash}
+use Rattle.graph.proofs.Catalogue.{catalogued-more, last-run, last-step, front-step}
 
 pub dep-trans : {conflict : ℕ → ℕ → ℕ → ℕ → Bool} {h : List ℕ} {x k q : ℕ} → Depends conflict h x k → Depends conflict h k q → Depends conflict h x q
 dep-trans e (direct d) = through e d
 dep-trans e (through f d) = through (dep-trans e f) d
 
--- row q has, with each place, what the place depends on, and of the places from p on those that q directly depends on
-pub record RowFrom (conflict : ℕ → ℕ → ℕ → ℕ → Bool) (h u : List ℕ) (q p : ℕ) : Type 0 where
-  pub sound : (x : ℕ) → x < row-bits → bit-at u q x ≡ 1 → Depends conflict h x q
-  pub closed : (x k : ℕ) → x < row-bits → k < row-bits → bit-at u q k ≡ 1 → Depends conflict h x k → bit-at u q x ≡ 1
-  pub complete : (k : ℕ) → k < row-bits → p ≤ k → DirectlyDepends conflict h k q → bit-at u q k ≡ 1
+-- ---- one row
 
--- t's row q has taken the places from p on, which makes it u's
-pub record RowTaken (L : ℕ → ℕ → Type 0) (t u : List ℕ) (q p : ℕ) : Type 0 where
-  pub others : (y x : ℕ) → x < row-bits → y ≢ q → bit-at u y x ≡ bit-at t y x
-  pub row : StepsRead L t q → (conflict : ℕ → ℕ → ℕ → ℕ → Bool) (h : List ℕ) → Links L conflict h → q < length h → RowFrom conflict h u q p
+-- the row m has only places on which q depends, and with each place what the place depends on
+pub record ClosedRow (conflict : ℕ → ℕ → ℕ → ℕ → Bool) (h : List ℕ) (q : ℕ) (m : List ℕ) : Type 0 where
+  pub sound : (x : ℕ) → x < row-bits → bit-at m 0 x ≡ 1 → Depends conflict h x q
+  pub closed : (x k : ℕ) → x < row-bits → k < row-bits → bit-at m 0 k ≡ 1 → Depends conflict h x k → bit-at m 0 x ≡ 1
 
-module _ (L : ℕ → ℕ → Type 0) (t : List ℕ) (q : ℕ) where
-  pub taken-none : q < rows → RowTaken L t t q q
-  taken-none hq = record { others = λ y x hx ne. refl; row = λ s conflict h l i. blank conflict h (s .rows conflict h l (omega arith)) }
-    where
-      blank : (conflict : ℕ → ℕ → ℕ → ℕ → Bool) (h : List ℕ) → Marks (DependsSoFar conflict h q) t → RowFrom conflict h t q q
-      blank conflict h m = record {
-        sound = λ x hx e. m .sound x q hx hq e .depends;
-        closed = λ x k hx hk e d. absurd (none k hk e);
-        complete = λ k hk l d. omega (arith, d .before);
-      }
-        where
-          none : (k : ℕ) → k < row-bits → bit-at t q k ≡ 1 → ⊥
-          none k hk e = omega (arith, m .sound k q hk hq e .so-far)
+-- the row m has taken the places of the direct row from `end` on
+pub record RowTaken (dep linked m : List ℕ) (end : ℕ) : Type 0 where
+  pub taken : (k : ℕ) → k < row-bits → end ≤ k → bit-at linked 0 k ≡ 1 → bit-at m 0 k ≡ 1
+  pub row : (conflict : ℕ → ℕ → ℕ → ℕ → Bool) (h : List ℕ) (q : ℕ) → q < rows → DirectRow conflict h q linked → Marks (DependsSoFar conflict h q) dep → ClosedRow conflict h q m
 
-  module _ (u : List ℕ) (p : ℕ) (answer : Bool) (pos : 0 < p) (pq : p ≤ q) (hq : q < rows) (w : RowTaken L t u q p) (f : Fresh L u (p - 1) q answer) where
-    pub taken-skip : answer ≡ false → RowTaken L t u q (p - 1)
-    taken-skip e = record { others = w .others; row = λ s conflict h l i. more conflict h l i (w .row s conflict h l i) }
-      where
-        more : (conflict : ℕ → ℕ → ℕ → ℕ → Bool) (h : List ℕ) → Links L conflict h → q < length h → RowFrom conflict h u q p → RowFrom conflict h u q (p - 1)
-        more conflict h l i r = record { sound = r .sound; closed = r .closed; complete = λ k hk b d. at k hk b d (ℕ-discrete k (p - 1)) }
-          where
-            at : (k : ℕ) → k < row-bits → p - 1 ≤ k → DirectlyDepends conflict h k q → Dec (k ≡ p - 1) → bit-at u q k ≡ 1
-            at k hk b d (no n) = r .complete k hk (omega arith) d
-            at k hk b d (yes z) = rw z (f .known e (rw z at (l .complete k q (d .before) i (d .linked))))
-
-    -- row q joined with row p - 1, and p - 1 marked
-    module _ (v x : List ℕ) (yes-fresh : answer ≡ true) (j : Replaced u v q (union (bit-at u q) (bit-at u (p - 1)))) (m : Marked v x q (p - 1)) where
-      old : (c : ℕ) → c < row-bits → bit-at u (p - 1) c ≡ bit-at t (p - 1) c
-      old c h = w .others (p - 1) c h (λ z. omega arith)
-
-      -- where a bit of the row comes from
-      from : (c : ℕ) → c < row-bits → bit-at x q c ≡ 1 → (c ≡ p - 1) ⊎ ((bit-at u q c ≡ 1) ⊎ (bit-at t (p - 1) c ≡ 1))
-      from c h e = go (ℕ-discrete c (p - 1))
-        where
-          either : max (bit-at u q c) (bit-at u (p - 1) c) ≡ 1 → Dec (bit-at u q c ≡ 1) → (bit-at u q c ≡ 1) ⊎ (bit-at t (p - 1) c ≡ 1)
-          either b (yes o) = inl o
-          either b (no n) = inr (sym (old c h) ∙ omega (arith, b, n, bit-at-lt u q c, bit-at-lt u (p - 1) c))
-
-          go : Dec (c ≡ p - 1) → (c ≡ p - 1) ⊎ ((bit-at u q c ≡ 1) ⊎ (bit-at t (p - 1) c ≡ 1))
-          go (yes z) = inl z
-          go (no n) = inr (either (sym (j .here c h) ∙ sym (m .other q c h (λ z. n (z .1))) ∙ e) (ℕ-discrete (bit-at u q c) 1))
-
-      to : (c : ℕ) → c < row-bits → (c ≡ p - 1) ⊎ ((bit-at u q c ≡ 1) ⊎ (bit-at t (p - 1) c ≡ 1)) → bit-at x q c ≡ 1
-      to c h b = go (ℕ-discrete c (p - 1)) b
-        where
-          top : (bit-at u q c ≡ 1) ⊎ (bit-at t (p - 1) c ≡ 1) → max (bit-at u q c) (bit-at u (p - 1) c) ≡ 1
-          top (inl e) = omega (arith, bit-at-lt u q c, bit-at-lt u (p - 1) c)
-          top (inr e) = omega (arith, old c h, bit-at-lt u q c, bit-at-lt u (p - 1) c)
-
-          go : Dec (c ≡ p - 1) → (c ≡ p - 1) ⊎ ((bit-at u q c ≡ 1) ⊎ (bit-at t (p - 1) c ≡ 1)) → bit-at x q c ≡ 1
-          go (yes z) a = ap (bit-at x q) z ∙ m .here
-          go (no n) (inl z) = absurd (n z)
-          go (no n) (inr a) = m .other q c h (λ z. n (z .1)) ∙ j .here c h ∙ top a
-
-      pub taken-more : RowTaken L t x q (p - 1)
-      taken-more = record {
-        others = λ y c h ne. m .other y c h (λ z. ne (z .0)) ∙ j .other y c h ne ∙ w .others y c h ne;
-        row = λ s conflict h l i. more conflict h l i (s .rows conflict h l (omega arith)) (w .row s conflict h l i);
-      }
-        where
-          more : (conflict : ℕ → ℕ → ℕ → ℕ → Bool) (h : List ℕ) → Links L conflict h → q < length h → Marks (DependsSoFar conflict h q) t → RowFrom conflict h u q p → RowFrom conflict h x q (p - 1)
-          more conflict h l i k r = record {
-            sound = λ c hc e. sound-at c hc (from c hc e);
-            closed = λ c a hc ha e d. closed-at c a hc ha d (from a ha e);
-            complete = λ c hc b d. complete-at c hc b d (ℕ-discrete c (p - 1));
-          }
-            where
-              link : DirectlyDepends conflict h (p - 1) q
-              link = record { before = omega arith; inside = i; linked = l .sound (p - 1) q (omega arith) i (f .linked yes-fresh) }
-
-              -- what row p - 1 of t tells
-              row-sound : (c : ℕ) → c < row-bits → bit-at t (p - 1) c ≡ 1 → Depends conflict h c (p - 1)
-              row-sound c hc e = k .sound c (p - 1) hc (omega arith) e .depends
-
-              row-complete : (c : ℕ) → c < row-bits → Depends conflict h c (p - 1) → bit-at t (p - 1) c ≡ 1
-              row-complete c hc d = k .complete c (p - 1) hc (omega arith) (record { so-far = omega arith; depends = d })
-
-              sound-at : (c : ℕ) → c < row-bits → (c ≡ p - 1) ⊎ ((bit-at u q c ≡ 1) ⊎ (bit-at t (p - 1) c ≡ 1)) → Depends conflict h c q
-              sound-at c hc (inl z) = rw z (direct link)
-              sound-at c hc (inr (inl e)) = r .sound c hc e
-              sound-at c hc (inr (inr e)) = through (row-sound c hc e) link
-
-              closed-at : (c a : ℕ) → c < row-bits → a < row-bits → Depends conflict h c a → (a ≡ p - 1) ⊎ ((bit-at u q a ≡ 1) ⊎ (bit-at t (p - 1) a ≡ 1)) → bit-at x q c ≡ 1
-              closed-at c a hc ha d (inl z) = let d′ : Depends conflict h c (p - 1) = rw z at d in to c hc (inr (inr (row-complete c hc d′)))
-              closed-at c a hc ha d (inr (inl e)) = to c hc (inr (inl (r .closed c a hc ha e d)))
-              closed-at c a hc ha d (inr (inr e)) = to c hc (inr (inr (row-complete c hc (dep-trans d (row-sound a ha e)))))
-
-              complete-at : (c : ℕ) → c < row-bits → p - 1 ≤ c → DirectlyDepends conflict h c q → Dec (c ≡ p - 1) → bit-at x q c ≡ 1
-              complete-at c hc b d (yes z) = to c hc (inl z)
-              complete-at c hc b d (no n) = to c hc (inr (inl (r .complete c hc (omega arith) d)))
-
-  pub taken-all : (u : List ℕ) (p : ℕ) → q < rows → p ≤ 0 → RowTaken L t u q p → StepRead L t u q
-  taken-all u p hq z w = record {
-    read = λ s. record { rows = λ conflict h l i. all conflict h (omega arith) (s .rows conflict h l (omega arith)) (w .row s conflict h l (omega arith)) };
-    others = w .others;
+module _ (dep linked : List ℕ) where
+  pub row-none : (n : ℕ) → RowTaken dep linked (replicate n 0) row-bits
+  row-none n = record {
+    taken = λ k h l e. omega arith;
+    row = λ conflict h q i d t. record { sound = λ x hx e. absurd (clash (zeros-bit n 0 x) e); closed = λ x k hx hk e f. absurd (clash (zeros-bit n 0 k) e) };
   }
-    where
-      all : (conflict : ℕ → ℕ → ℕ → ℕ → Bool) (h : List ℕ) → q < length h → Marks (DependsSoFar conflict h q) t → RowFrom conflict h u q p → Marks (DependsSoFar conflict h (q + 1)) u
-      all conflict h i k r = record {
-        sound = λ x y hx hy e. sound-at x y hx hy e (ℕ-discrete y q);
-        complete = λ x y hx hy d. complete-at x y hx hy (d .depends) (below-next y q (d .so-far));
-      }
+
+  module _ (m : List ℕ) (end : ℕ) (w : RowTaken dep linked m end) where
+    taken-all : ((k : ℕ) → k < row-bits → bit-at linked 0 k ≡ 1 → bit-at m 0 k ≡ 1) → RowFrom dep linked m
+    taken-all all = record { row = λ conflict h q i d t. is conflict h q i d (w .row conflict h q i d t) }
+      where
+        is : (conflict : ℕ → ℕ → ℕ → ℕ → Bool) (h : List ℕ) (q : ℕ) → q < rows → DirectRow conflict h q linked → ClosedRow conflict h q m → DependenceRow conflict h q m
+        is conflict h q i d r = record { sound = r .sound; complete = complete }
+          where
+            complete : (p : ℕ) → p < row-bits → Depends conflict h p q → bit-at m 0 p ≡ 1
+            complete p hp (direct e) = all p hp (d .complete p hp e)
+            complete p hp (through {k = k} f e) =
+                let hk : k < row-bits = omega (arith, e .before) in
+                r .closed p k hp hk (all k hk (d .complete k hk e)) f
+
+    pub row-end : end ≤ 0 → RowFrom dep linked m
+    row-end z = taken-all (λ k h e. w .taken k h (omega arith) e)
+
+    pub row-full : (found : Found) → Last (difference (bit-at linked 0) (bit-at m 0)) found → found ≡ Nothing → RowFrom dep linked m
+    row-full found f e = let n : NoColumn (difference (bit-at linked 0) (bit-at m 0)) = rw e at f in taken-all (λ k h e. omega (arith, n .none k h, bit-at-lt m 0 k))
+
+    module _ (found : Found) (p : ℕ) (f : Last (difference (bit-at linked 0) (bit-at m 0)) found) (ef : found ≡ At p) where
+      at-last : LastAt (difference (bit-at linked 0) (bit-at m 0)) p
+      at-last = rw ef at f
+
+      pub row-place : p < rows
+      row-place = at-last .in-row
+
+      in-linked : bit-at linked 0 p ≡ 1
+      in-linked = omega (arith, at-last .here, bit-at-lt linked 0 p)
+
+      pub row-less : p < end
+      row-less = go (decLt p end)
         where
-          sound-at : (x y : ℕ) → x < row-bits → y < rows → bit-at u y x ≡ 1 → Dec (y ≡ q) → DependsSoFar conflict h (q + 1) x y
-          sound-at x y hx hy e (yes c) = let e′ : bit-at u q x ≡ 1 = rw c at e in record { so-far = omega arith; depends = rw c (r .sound x hx e′) }
-          sound-at x y hx hy e (no n) =
-              let d = k .sound x y hx hy (sym (w .others y x hx n) ∙ e) in
-              record { so-far = omega (arith, d .so-far); depends = d .depends }
+          go : Dec (p < end) → p < end
+          go (yes y) = y
+          go (no n) = absurd (omega (arith, at-last .here, w .taken p (at-last .in-row) (omega arith) in-linked))
 
-          here : (x : ℕ) → x < row-bits → Depends conflict h x q → bit-at u q x ≡ 1
-          here x hx (direct d) = r .complete x hx (omega arith) d
-          here x hx (through {k = a} e d) = r .closed x a hx (omega (arith, d .before)) (r .complete a (omega (arith, d .before)) (omega arith) d) e
+      module _ (u v : List ℕ) (j : Replaced m u 0 (union (bit-at m 0) (bit-at dep p))) (k : Marked u v 0 p) where
+        -- where a column of the row comes from
+        from : (c : ℕ) → c < row-bits → bit-at v 0 c ≡ 1 → (c ≡ p) ⊎ ((bit-at m 0 c ≡ 1) ⊎ (bit-at dep p c ≡ 1))
+        from c h e = go (ℕ-discrete c p)
+          where
+            either : max (bit-at m 0 c) (bit-at dep p c) ≡ 1 → Dec (bit-at m 0 c ≡ 1) → (bit-at m 0 c ≡ 1) ⊎ (bit-at dep p c ≡ 1)
+            either b (yes o) = inl o
+            either b (no n) = inr (omega (arith, b, n, bit-at-lt m 0 c, bit-at-lt dep p c))
 
-          complete-at : (x y : ℕ) → x < row-bits → y < rows → Depends conflict h x y → (y ≡ q) ⊎ (y < q) → bit-at u y x ≡ 1
-          complete-at x y hx hy d (inl c) = let d′ : Depends conflict h x q = rw c at d in rw c (here x hx d′)
-          complete-at x y hx hy d (inr b) = w .others y x hx (λ c. omega arith) ∙ k .complete x y hx hy (record { so-far = b; depends = d })
+            go : Dec (c ≡ p) → (c ≡ p) ⊎ ((bit-at m 0 c ≡ 1) ⊎ (bit-at dep p c ≡ 1))
+            go (yes z) = inl z
+            go (no n) = inr (either (sym (j .here c h) ∙ sym (k .other 0 c h (λ z. n (z .1))) ∙ e) (ℕ-discrete (bit-at m 0 c) 1))
 
--- ---- one row after another
+        to : (c : ℕ) → c < row-bits → (c ≡ p) ⊎ ((bit-at m 0 c ≡ 1) ⊎ (bit-at dep p c ≡ 1)) → bit-at v 0 c ≡ 1
+        to c h b = go (ℕ-discrete c p) b
+          where
+            top : (bit-at m 0 c ≡ 1) ⊎ (bit-at dep p c ≡ 1) → max (bit-at m 0 c) (bit-at dep p c) ≡ 1
+            top (inl e) = omega (arith, bit-at-lt m 0 c, bit-at-lt dep p c)
+            top (inr e) = omega (arith, bit-at-lt m 0 c, bit-at-lt dep p c)
 
-pub steps-none : (L : ℕ → ℕ → Type 0) (n : ℕ) → StepsRead L (replicate n 0) 0
-steps-none L n = record {
-  rows = λ conflict h l i. record {
-    sound = λ x y hx hy e. absurd (clash (zeros-bit n y x) e);
-    complete = λ x y hx hy d. absurd (low y (d .so-far));
-  };
-}
+            go : Dec (c ≡ p) → (c ≡ p) ⊎ ((bit-at m 0 c ≡ 1) ⊎ (bit-at dep p c ≡ 1)) → bit-at v 0 c ≡ 1
+            go (yes z) a = ap (bit-at v 0) z ∙ k .here
+            go (no n) (inl z) = absurd (n z)
+            go (no n) (inr a) = k .other 0 c h (λ z. n (z .1)) ∙ j .here c h ∙ top a
 
-pub steps-more : (L : ℕ → ℕ → Type 0) (t u : List ℕ) (q : ℕ) → StepsRead L t q → StepRead L t u q → StepsRead L u (q + 1)
-steps-more L t u q s r = r .read s
+        pub row-more : RowTaken dep linked v p
+        row-more = record { taken = λ c h b e. taken c h b e (ℕ-discrete c p); row = λ conflict h q i d t. more conflict h q i d t (w .row conflict h q i d t) }
+          where
+            taken : (c : ℕ) → c < row-bits → p ≤ c → bit-at linked 0 c ≡ 1 → Dec (c ≡ p) → bit-at v 0 c ≡ 1
+            taken c h b e (yes z) = to c h (inl z)
+            taken c h b e (no n) = to c h (inr (inl (omega (arith, at-last .after c (omega arith) h, bit-at-lt m 0 c))))
 
-pub steps-all : (L : ℕ → ℕ → Type 0) (t : List ℕ) (n q : ℕ) → StepsRead L t q → q ≤ n → n ≤ q → StepsRead L t n
-steps-all L t n q s a b = let e : q ≡ n = omega arith in rw e at s
+            more : (conflict : ℕ → ℕ → ℕ → ℕ → Bool) (h : List ℕ) (q : ℕ) → q < rows → DirectRow conflict h q linked → Marks (DependsSoFar conflict h q) dep → ClosedRow conflict h q m → ClosedRow conflict h q v
+            more conflict h q i d t r = record { sound = λ c hc e. sound c hc (from c hc e); closed = λ c a hc ha e f. closed c a hc ha f (from a ha e) }
+              where
+                link : DirectlyDepends conflict h p q
+                link = d .sound p (at-last .in-row) in-linked
 
--- the rows after the last step
-pub steps-marks : (L : ℕ → ℕ → Type 0) (conflict : ℕ → ℕ → ℕ → ℕ → Bool) (h t : List ℕ) (n : ℕ) → Links L conflict h → n ≡ length h → StepsRead L t n → Marks (Depends conflict h) t
-steps-marks L conflict h t n l e s =
-    let m = s .rows conflict h l (omega arith) in
-    record {
-      sound = λ x y hx hy b. m .sound x y hx hy b .depends;
-      complete = λ x y hx hy d. m .complete x y hx hy (record { so-far = omega (arith, dep-inside conflict d); depends = d });
+                -- what row p of the table tells
+                row-sound : (c : ℕ) → c < row-bits → bit-at dep p c ≡ 1 → Depends conflict h c p
+                row-sound c hc e = t .sound c p hc (at-last .in-row) e .depends
+
+                row-complete : (c : ℕ) → c < row-bits → Depends conflict h c p → bit-at dep p c ≡ 1
+                row-complete c hc f = t .complete c p hc (at-last .in-row) (record { so-far = link .before; depends = f })
+
+                sound : (c : ℕ) → c < row-bits → (c ≡ p) ⊎ ((bit-at m 0 c ≡ 1) ⊎ (bit-at dep p c ≡ 1)) → Depends conflict h c q
+                sound c hc (inl z) = rw z (direct link)
+                sound c hc (inr (inl e)) = r .sound c hc e
+                sound c hc (inr (inr e)) = through (row-sound c hc e) link
+
+                closed : (c a : ℕ) → c < row-bits → a < row-bits → Depends conflict h c a → (a ≡ p) ⊎ ((bit-at m 0 a ≡ 1) ⊎ (bit-at dep p a ≡ 1)) → bit-at v 0 c ≡ 1
+                closed c a hc ha f (inl z) = let f′ : Depends conflict h c p = rw z at f in to c hc (inr (inr (row-complete c hc f′)))
+                closed c a hc ha f (inr (inl e)) = to c hc (inr (inl (r .closed c a hc ha e f)))
+                closed c a hc ha f (inr (inr e)) = to c hc (inr (inr (row-complete c hc (dep-trans f (row-sound a ha e)))))
+
+-- ---- one step more
+
+other-runs : (b c : Bool) → T (b && c) → T c
+other-runs true c t = t
+other-runs false c t = absurd t
+
+module _ (pairs t u dep dep′ linked m : List ℕ) (q r : ℕ) (x : Step) (hq : q < rows) (lk : x .kind < kind-limit) (f : Finds (Linked pairs r x) t linked)
+    (w : RowFrom dep linked m) (j : Replaced dep dep′ q (bit-at m 0)) (e : Entered t u q r x parts) where
+  module _ (runs : List (List Step)) (h : List ℕ) (eq : length h ≡ q) (ex : step-of runs r (count h r) ≡ x) (s : StepsRead (pairs-of pairs) runs h t dep) where
+    abbrev c : ℕ → ℕ → ℕ → ℕ → Bool
+    c = conflict (pairs-of pairs) runs
+
+    abbrev l : List ℕ
+    l = h ++ r ∷ []
+
+    longer : length l ≡ suc q
+    longer = length-snoc h r ∙ ap suc eq
+
+    q-run : run l q ≡ r
+    q-run = rw (← eq) (last-run runs h r)
+
+    p-run : (p : ℕ) → p < length h → run l p ≡ run h p
+    p-run p i = front h (r ∷ []) p i .runs
+
+    -- the steps at an earlier place and at q
+    conflict-is : (p : ℕ) → p < length h → c (run l p) (ordinal l p) (run l q) (ordinal l q) ≡ (not (eqb (run h p) r) && steps-conflict (pairs-of pairs) (step-at runs h p) x)
+    unfolding conflict
+    conflict-is p i = rw (front-step runs h r p i, ← eq, last-step runs h r, ex, p-run p i, last-run runs h r)
+
+    direct-row : DirectRow c l q linked
+    direct-row = record { sound = λ p hp b. sound p (f .sound runs h (s .catalogued) p hp b .inside) (f .sound runs h (s .catalogued) p hp b .holds) (ℕ-discrete (run h p) r); complete = complete }
+      where
+        sound : (p : ℕ) → p < length h → Linked pairs r x (run h p) (step-at runs h p) → Dec (run h p ≡ r) → DirectlyDepends c l p q
+        sound p i a (yes z) = record { before = omega arith; inside = omega (arith, longer); linked = inl (p-run p i ∙ z ∙ sym q-run) }
+        sound p i (inl z) (no n) = absurd (n z)
+        sound p i (inr b) (no n) = record { before = omega arith; inside = omega (arith, longer); linked = inr (rw (conflict-is p i, ne-eqb (run h p) r n) b) }
+
+        complete : (p : ℕ) → p < row-bits → DirectlyDepends c l p q → bit-at linked 0 p ≡ 1
+        complete p hp d = f .complete runs h (s .catalogued) p hp (record { inside = i; holds = link (d .linked) })
+          where
+            i : p < length h
+            i = omega (arith, d .before)
+
+            link : (run l p ≡ run l q) ⊎ Conflicting c l p q → Linked pairs r x (run h p) (step-at runs h p)
+            link (inl z) = inl (sym (p-run p i) ∙ z ∙ q-run)
+            link (inr b) = inr (other-runs (not (eqb (run h p) r)) (steps-conflict (pairs-of pairs) (step-at runs h p) x) (rw (conflict-is p i) at b))
+
+    before : Marks (DependsSoFar c l q) dep
+    before = record {
+      sound = λ a y ha hy b. let d = s .so-far .sound a y ha hy b in record { so-far = omega (arith, dep-inside c d); depends = front-depends c h (r ∷ []) d };
+      complete = λ a y ha hy d. s .so-far .complete a y ha hy (depends-front c h (r ∷ []) (omega (arith, d .so-far)) (d .depends));
     }
 
--- ---- the tests
+    row-is : DependenceRow c l q m
+    row-is = w .row c l q hq direct-row before
 
-pub fresh-known : (L : ℕ → ℕ → Type 0) (t : List ℕ) (p q : ℕ) (answer : Bool) → answer ≡ eqb (bit-at t q p) 1 → answer ≡ true → Fresh L t p q false
-fresh-known L t p q answer e z = record { linked = λ z. absurd (true≢false (sym z)); known = λ z′ l. eqb-true (bit-at t q p) 1 (sym e ∙ z) }
+    so-far : Marks (Depends c l) dep′
+    so-far = record { sound = λ a y ha hy b. sound a y ha hy b (ℕ-discrete y q); complete = λ a y ha hy d. complete a y ha hy d (ℕ-discrete y q) }
+      where
+        sound : (a y : ℕ) → a < row-bits → y < rows → bit-at dep′ y a ≡ 1 → Dec (y ≡ q) → Depends c l a y
+        sound a y ha hy b (yes z) = let b′ : bit-at dep′ q a ≡ 1 = rw z at b in rw z (row-is .sound a ha (sym (j .here a ha) ∙ b′))
+        sound a y ha hy b (no n) = before .sound a y ha hy (sym (j .other y a ha n) ∙ b) .depends
 
-pub fresh-linked : (L : ℕ → ℕ → Type 0) (t : List ℕ) (p q : ℕ) (answer : Bool) → Answers (L p q) answer → answer ≡ true → Fresh L t p q true
-fresh-linked L t p q answer s z = record { linked = λ _. s .sound z; known = λ z′ l. absurd (true≢false z′) }
+        complete : (a y : ℕ) → a < row-bits → y < rows → Depends c l a y → Dec (y ≡ q) → bit-at dep′ y a ≡ 1
+        complete a y ha hy d (yes z) = let d′ : Depends c l a q = rw z at d in rw z (j .here a ha ∙ row-is .complete a ha d′)
+        complete a y ha hy d (no n) = j .other y a ha n ∙ before .complete a y ha hy (record { so-far = omega (arith, dep-inside c d, longer); depends = d })
 
-pub fresh-apart : (L : ℕ → ℕ → Type 0) (t : List ℕ) (p q : ℕ) (answer : Bool) → Answers (L p q) answer → answer ≡ false → Fresh L t p q false
-fresh-apart L t p q answer s z = record { linked = λ z′. absurd (true≢false (sym z′)); known = λ z′ l. absurd (true≢false (sym (s .complete l) ∙ z)) }
+    read : StepsRead (pairs-of pairs) runs l u dep′
+    read = record { so-far = so-far; to-come = blank l dep′ so-far; catalogued = catalogued-more runs h t u q r x eq ex (s .catalogued) e hq lk }
+      where
+        blank : (l dep : List ℕ) → Marks (Depends c l) dep → (a y : ℕ) → a < row-bits → length l ≤ y → y < rows → bit-at dep y a ≡ 0
+        blank l dep k a y ha b hy = go (ℕ-discrete (bit-at dep y a) 1)
+          where
+            go : Dec (bit-at dep y a ≡ 1) → bit-at dep y a ≡ 0
+            go (yes z) = absurd (omega (arith, dep-inside c (k .sound a y ha hy z)))
+            go (no n) = omega (arith, bit-at-lt dep y a)
+
+  pub step-read : StepRead pairs t u dep dep′ q r x
+  step-read = record { read = read; unchanged = j .words }
+
+-- ---- no step yet
+
+pub none-read : (pairs : List Pair) (runs : List (List Step)) (m n : ℕ) → StepsRead pairs runs [] (replicate m 0) (replicate n 0)
+none-read pairs runs m n = record {
+  so-far = record { sound = λ x y hx hy e. absurd (clash (zeros-bit n y x) e); complete = λ x y hx hy d. absurd (low y (dep-inside (conflict pairs runs) d)) };
+  to-come = λ x y hx l hy. zeros-bit n y x;
+  catalogued = record {
+    marks = record { sound = λ p y hp hy e. absurd (clash (zeros-bit m y p) e); complete = λ p y hp hy a. absurd (low p (a .inside)) };
+    kinds = λ p i. absurd (low p i);
+  };
+}

@@ -1,4 +1,4 @@
--- The test of a conflict by the flags of the pairs.
+-- The test of a listed pair by the flags of the pairs.
 use Prim.Native.Nat.{ℕ, suc, _+_, _*_, _/_, _%_, _<_}
 use native.Mathlib.Omega.{arith}
 use mathlib.Core.Path.{_≡_, refl, _∙_}
@@ -58,18 +58,3 @@ module _ (t : List ℕ) (a b : ℕ) (ha : a < kind-limit) (hb : b < kind-limit) 
 
   pub listed-second : getD t (a * kind-limit + b) 0 ≡ 0 → not (eqb (getD t (b * kind-limit + a) 0) 0) ≡ listed (pairs-of t) a b
   listed-second e = rw (listed-flags, eq-eqb (getD t (a * kind-limit + b) 0) 0 e)
-
--- ---- the test of a conflict
-
-pub same-number : (p q : ℕ) → eqb p q ≡ same-position p q
-unfolding same-position
-same-number p q = refl
-
-module _ (t : List ℕ) (x y : StepValue) (same : Bool) (e : same ≡ same-position (x .position) (y .position)) where
-  pub conflict-apart : same ≡ false → false ≡ steps-conflict (pairs-of t) (as-step x) (as-step y)
-  unfolding steps-conflict
-  conflict-apart f = rw (← e, f)
-
-  pub conflict-listed : (r : Bool) (a b : ℕ) → same ≡ true → a ≡ x .kind → b ≡ y .kind → r ≡ listed (pairs-of t) a b → r ≡ steps-conflict (pairs-of t) (as-step x) (as-step y)
-  unfolding steps-conflict
-  conflict-listed r a b f ea eb l = rw (← e, f, ← ea, ← eb) l

@@ -1,31 +1,60 @@
--- The dependence rows of a history, step by step (document 02, change 3): after each step read, the rows so far mark exactly the
--- earlier places each step depends on, the rows to come mark nothing, and earlier rows don't change again.
-use Prim.Native.Nat.{ℕ, _+_, _≤_, _<_}
+-- Dependence while the history is read (document 02, change 3): after each step read, the rows so far mark exactly the earlier places
+-- each step depends on, the rows to come mark nothing, and earlier rows don't change again.
+use Prim.Native.Nat.{ℕ, zero, suc, _+_, _/_, _%_, _≤_, _<_}
 use mathlib.Core.Path.{_≡_}
-use mathlib.Core.Logic.{_⊎_, _≢_}
-use mathlib.Core.Bool.{Bool}
-use mathlib.Core.List.{List}
-use lib.ListN.{length}
-use Rattle.bits.specs.Table.{row-bits, bit-at}
-use Rattle.theory.specs.History.{run}
-use Rattle.theory.specs.Relative.{Conflicting, Depends}
+use mathlib.Core.Logic.{_≢_}
+use mathlib.Core.List.{List, [], _∷_, _++_}
+use lib.ListN.{length, getD}
+use Rattle.bits.specs.Table.{row-words, row-bits, rows, bit-at}
+use Rattle.theory.specs.History.{count, run, ordinal}
+use Rattle.theory.specs.Deck.{Pair, Step, step-of, conflict}
+use Rattle.theory.specs.Relative.{Depends}
+use Rattle.book.specs.Format.{kind-limit}
+use Rattle.book.specs.Book.{pairs-of}
 use Rattle.graph.specs.Marks.{Marks}
 
--- y is one of the first q steps of h, and depends on x
-pub record DependsSoFar (conflict : ℕ → ℕ → ℕ → ℕ → Bool) (h : List ℕ) (q x y : ℕ) : Type 0 where
-  pub so-far : y < q
-  pub depends : Depends conflict h x y
+-- ---- the catalogue: where the places stand that have the same position, kind or run
 
--- L tells of each step of h on which earlier ones it directly depends
-pub record Links (L : ℕ → ℕ → Type 0) (conflict : ℕ → ℕ → ℕ → ℕ → Bool) (h : List ℕ) : Type 0 where
-  pub sound : (p q : ℕ) → p < q → q < length h → L p q → (run h p ≡ run h q) ⊎ Conflicting conflict h p q
-  pub complete : (p q : ℕ) → p < q → q < length h → (run h p ≡ run h q) ⊎ Conflicting conflict h p q → L p q
+-- kinds, runs and the digits of a position are below this
+abbrev pub base : ℕ
+base = 16
 
--- t is the table after the first n steps of any history whose links are L
-pub record StepsRead (L : ℕ → ℕ → Type 0) (t : List ℕ) (n : ℕ) : Type 0 where
-  pub rows : (conflict : ℕ → ℕ → ℕ → ℕ → Bool) (h : List ℕ) → Links L conflict h → n ≤ length h → Marks (DependsSoFar conflict h n) t
+-- the parts of a step x of run r: its position's four digits, the lowest first, its kind and its run. There is no further part
+abbrev pub part : ℕ → Step → ℕ → ℕ
+part r x zero = x .position % base
+part r x (suc zero) = x .position / 16 % base
+part r x (suc (suc zero)) = x .position / 256 % base
+part r x (suc (suc (suc zero))) = x .position / 4096
+part r x (suc (suc (suc (suc zero)))) = x .kind
+part r x (suc (suc (suc (suc (suc zero))))) = r
+part r x (suc (suc (suc (suc (suc (suc k)))))) = base
 
--- reading step q makes of the table t after the first q steps the table u after one more, and changes no other row
-pub record StepRead (L : ℕ → ℕ → Type 0) (t u : List ℕ) (q : ℕ) : Type 0 where
-  pub read : StepsRead L t q → StepsRead L u (q + 1)
-  pub others : (y x : ℕ) → x < row-bits → y ≢ q → bit-at u y x ≡ bit-at t y x
+-- the step at place p of h
+abbrev pub step-at : List (List Step) → List ℕ → ℕ → Step
+step-at runs h p = step-of runs (run h p) (ordinal h p)
+
+-- row k * base + v has the places whose part k is v
+pub record PartIs (runs : List (List Step)) (h : List ℕ) (p y : ℕ) : Type 0 where
+  pub inside : p < length h
+  pub is : part (run h p) (step-at runs h p) (y / base) ≡ y % base
+
+pub record Catalogued (runs : List (List Step)) (h catalogue : List ℕ) : Type 0 where
+  pub marks : Marks (PartIs runs h) catalogue
+  pub kinds : (p : ℕ) → p < length h → step-at runs h p .kind < kind-limit
+
+-- ---- the steps of a history, one by one
+
+-- the tables after the steps of h were read
+pub record StepsRead (pairs : List Pair) (runs : List (List Step)) (h catalogue dep : List ℕ) : Type 0 where
+  -- the rows so far mark exactly the earlier places each step depends on
+  pub so-far : Marks (Depends (conflict pairs runs) h) dep
+  -- the rows to come mark nothing
+  pub to-come : (x y : ℕ) → x < row-bits → length h ≤ y → y < rows → bit-at dep y x ≡ 0
+  pub catalogued : Catalogued runs h catalogue
+
+-- reading x as place q, the next step of run r, after the steps of any history: the tables are those after one step more
+pub record StepRead (pairs catalogue catalogue′ dep dep′ : List ℕ) (q r : ℕ) (x : Step) : Type 0 where
+  pub read : (runs : List (List Step)) (h : List ℕ) → length h ≡ q → step-of runs r (count h r) ≡ x
+      → StepsRead (pairs-of pairs) runs h catalogue dep → StepsRead (pairs-of pairs) runs (h ++ r ∷ []) catalogue′ dep′
+  -- every row but q has the same words as before
+  pub unchanged : (i : ℕ) → i / row-words ≢ q → getD dep′ i 0 ≡ getD dep i 0

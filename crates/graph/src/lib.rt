@@ -8,18 +8,18 @@ ghost use mathlib.Core.Path.{_≡_};
 ghost use mathlib.Core.Logic.{_≢_};
 ghost use Prim.Native.Nat.{_+_, _*_, _<_, _≤_};
 ghost use lib.ListN.{length, take};
-ghost use Rattle.theory.specs.Deck.{listed, same-position, steps-conflict};
+ghost use Rattle.theory.specs.Deck.{listed};
 ghost use Rattle.theory.specs.Relative.{Depends};
 ghost use Rattle.theory.specs.Graph.{FirstOf, LastOf, Arc};
 ghost use Rattle.theory.specs.Lists.{sum};
 ghost use Rattle.book.specs.Format.{kind-limit, run-limit, step-limit};
 ghost use Rattle.book.specs.Book.{code-limit, as-step, pairs-of, Valid, contents-of};
 ghost use Rattle.book.specs.Meaning.{conflict-of, unit-of};
-ghost use Rattle.theory.specs.Answers.{Answers};
 ghost use Rattle.graph.specs.Marks.{Marks};
 ghost use Rattle.graph.specs.Units.{units-size, UnchangedFrom, UnitTables};
-ghost use Rattle.graph.specs.Dependence.{StepsRead, StepRead};
-ghost use Rattle.graph.specs.inner.Tables.{places-size, Small, HistoryOf, Declared, NumberAt, StepAt, Starts, StepsRoom, StepsByPlace, Link, Fresh, Numbering, Counts, EachBy, RowRoom, RowSet, copied-row};
+ghost use Rattle.graph.specs.Dependence.{StepRead};
+ghost use Rattle.graph.specs.inner.Catalogue.{digit-parts, parts, PartRow, Entered, Finds, Paired, KindAdded, PairedAt, Linked, RowFrom, HistoryRead};
+ghost use Rattle.graph.specs.inner.Tables.{places-size, Small, HistoryOf, Declared, NumberAt, StepAt, Starts, StepsRoom, Numbering, Counts, EachBy, RowRoom, RowSet, copied-row};
 ghost use Rattle.graph.specs.inner.Arcs.{ArcOf, ArcOfPlaces, InRun, TablesOf, GainedBy, ArcRows, ArcInput, Rowed};
 ghost use Rattle.bits.specs.Table.{bit-at, intersection};
 ghost use Rattle.bits.specs.Last.{LastAt};
@@ -33,16 +33,24 @@ pub type Units = [u8; UNITS_SIZE];
 // The size of a table of a place for each step, of run r and ordinal i at r * Book::RUN_STEPS + i.
 const PLACES_SIZE: usize = Book::RUNS * Book::RUN_STEPS;
 
+// Kinds, runs and the digits of a position are below this.
+const BASE: usize = 16;
+
+// The parts of a step that the catalogue of the places read tells apart: the digits of its position, the lowest first, its kind, its run.
+const DIGIT_PARTS: usize = 4;
+
+const KIND_PART: usize = 4;
+
+const RUN_PART: usize = 5;
+
+const PARTS: usize = 6;
+
 // These have no effect: their contracts say how long the array is, for functions that hold it by `&mut`.
 fn sized_by_run(t: [u8; Book::RUNS])
     ensures { λ r. ⌜ length t ≡ run-limit ⌝ }
 {}
 
 fn sized_by_place(t: [u8; Book::STEPS])
-    ensures { λ r. ⌜ length t ≡ step-limit ⌝ }
-{}
-
-fn sized_steps(t: [u32; Book::STEPS])
     ensures { λ r. ⌜ length t ≡ step-limit ⌝ }
 {}
 
@@ -85,36 +93,6 @@ fn starts(lengths: &[u8; Book::RUNS], t: &mut [u8; Book::RUNS])
     }
 }
 
-// The code of each place's step. `next` has the next step of each run.
-fn by_place(
-    history: &[u8; Book::STEPS],
-    n: usize,
-    steps: &[u32; Book::STEPS],
-    next: &mut [u8; Book::RUNS],
-    steps_at: &mut [u32; Book::STEPS],
-)
-    requires { ⌜ HistoryOf (now history) n × StepsRoom (take n (now history)) (now next) × Small code-limit (now steps) × Small code-limit (now «steps_at») ⌝ }
-    ensures { λ r. ⌜ StepsByPlace (take n (now (history .entry))) (now (next .entry)) (now (steps .entry)) (now («steps_at» .exit)) n ⌝ }
-{
-    let mut p = 0;
-    while p < n {
-        sized_by_run(*next);
-        sized_steps(*steps_at);
-        let r = run_of(history, p);
-        let i = next[r];
-        steps_at[p] = steps[book::wide(i)];
-        next[r] = i + 1;
-        p += 1;
-    }
-}
-
-// Whether two position numbers name the same position.
-pub fn same_position(p: u16, q: u16) -> bool
-    ensures { λ r. ⌜ r ≡ same-position p q ⌝ }
-{
-    p == q
-}
-
 // Whether kinds a and b are a listed pair.
 fn is_listed(pairs: &[u8; Book::PAIRS_SIZE], a: usize, b: usize) -> bool
     requires { ⌜ (a < kind-limit) × (b < kind-limit) ⌝ }
@@ -126,93 +104,152 @@ fn is_listed(pairs: &[u8; Book::PAIRS_SIZE], a: usize, b: usize) -> bool
     pairs[b * Book::KINDS + a] != 0
 }
 
-// Whether two steps of different runs conflict.
-pub fn conflicts(pairs: &[u8; Book::PAIRS_SIZE], x: Step, y: Step) -> bool
-    requires { ⌜ (x .kind < kind-limit) × (y .kind < kind-limit) ⌝ }
-    ensures { λ r. ⌜ r ≡ steps-conflict (pairs-of (now (pairs .entry))) (as-step x) (as-step y) ⌝ }
+// The catalogue's row of the part k of a step of run r.
+fn part_row(r: usize, x: Step, k: usize) -> usize
+    requires { ⌜ (r < run-limit) × (x .kind < kind-limit) × (k < parts) ⌝ }
+    ensures { λ row. ⌜ PartRow r (as-step x) k row ⌝ }
 {
-    if same_position(x.position, y.position) {
-        return is_listed(pairs, book::wide(x.kind), book::wide(y.kind));
+    let position = x.position as usize;
+    if k == 0 {
+        return k * BASE + position % BASE;
     }
-    false
+    if k == 1 {
+        return k * BASE + position / 16 % BASE;
+    }
+    if k == 2 {
+        return k * BASE + position / 256 % BASE;
+    }
+    if k == 3 {
+        return k * BASE + position / 4096;
+    }
+    if k == KIND_PART {
+        return k * BASE + book::wide(x.kind);
+    }
+    k * BASE + r
 }
 
-// Whether place q is linked to p: of one run, or in conflict.
-fn linked(
-    history: &[u8; Book::STEPS],
-    steps: &[u32; Book::STEPS],
-    pairs: &[u8; Book::PAIRS_SIZE],
-    p: usize,
-    q: usize,
-) -> bool
-    requires { ⌜ (p < step-limit) × (q < step-limit) × Small code-limit (now steps) ⌝ }
-    ensures { λ r. ⌜ Answers (Link (now (history .entry)) (now (steps .entry)) (now (pairs .entry)) p q) r ⌝ }
+// Enters the step x of run r as place q.
+fn enter(catalogue: &mut Table, q: usize, r: usize, x: Step)
+    requires { ⌜ (q < step-limit) × (r < run-limit) × (x .kind < kind-limit) ⌝ }
+    ensures { λ _. ⌜ Entered (now (catalogue .entry)) (now (catalogue .exit)) q r (as-step x) parts ⌝ }
 {
-    if history[p] == history[q] {
-        return true;
+    let mut k = 0;
+    while k < PARTS {
+        bits::mark(catalogue, part_row(r, x, k), q);
+        k += 1;
     }
-    let x = step_at(steps, p);
-    let y = step_at(steps, q);
-    conflicts(pairs, x, y)
 }
 
-// Whether place q is linked to p, and its row does not mark p yet.
-fn fresh(
-    history: &[u8; Book::STEPS],
-    steps: &[u32; Book::STEPS],
-    pairs: &[u8; Book::PAIRS_SIZE],
-    dep: &Table,
-    p: usize,
-    q: usize,
-) -> bool
-    requires { ⌜ (p < step-limit) × (q < step-limit) × Small code-limit (now steps) ⌝ }
-    ensures { λ r. ⌜ Fresh (Link (now (history .entry)) (now (steps .entry)) (now (pairs .entry))) (now (dep .entry)) p q r ⌝ }
+// Adds the places of kind k, if it is paired with this kind.
+fn add_kind(pairs: &[u8; Book::PAIRS_SIZE], catalogue: &Table, kind: usize, k: usize, m: &mut Row)
+    requires { ⌜ (kind < kind-limit) × (k < kind-limit) ⌝ }
+    ensures { λ _. ⌜ KindAdded (now (pairs .entry)) (now (catalogue .entry)) kind k (now (m .entry)) (now (m .exit)) ⌝ }
 {
-    if linked(history, steps, pairs, p, q) {
-        if bits::marked(dep, q, p) {
-            return false;
+    if is_listed(pairs, k, kind) {
+        bits::add_row(m, catalogue, KIND_PART * BASE + k);
+    }
+}
+
+// The places of the kinds that are paired with this one.
+fn paired(pairs: &[u8; Book::PAIRS_SIZE], catalogue: &Table, kind: usize) -> Row
+    requires { ⌜ kind < kind-limit ⌝ }
+    ensures { λ m. ⌜ Finds (Paired (now (pairs .entry)) kind kind-limit) (now (catalogue .entry)) m ⌝ }
+{
+    let mut m = [0; bits::ROW_WORDS];
+    let mut k = 0;
+    while k < Book::KINDS {
+        add_kind(pairs, catalogue, kind, k, &mut m);
+        k += 1;
+    }
+    m
+}
+
+// The places that a step x conflicts with if it is of another run: of a paired kind, and with the digits of its position.
+fn conflicting(pairs: &[u8; Book::PAIRS_SIZE], catalogue: &Table, r: usize, x: Step) -> Row
+    requires { ⌜ (r < run-limit) × (x .kind < kind-limit) ⌝ }
+    ensures { λ m. ⌜ Finds (PairedAt (now (pairs .entry)) r (as-step x) digit-parts) (now (catalogue .entry)) m ⌝ }
+{
+    let mut m = paired(pairs, catalogue, book::wide(x.kind));
+    let mut k = 0;
+    while k < DIGIT_PARTS {
+        bits::keep_row(&mut m, catalogue, part_row(r, x, k));
+        k += 1;
+    }
+    m
+}
+
+// The places on which a step x of run r directly depends: those that it conflicts with, and those of its run.
+fn direct_row(pairs: &[u8; Book::PAIRS_SIZE], catalogue: &Table, r: usize, x: Step) -> Row
+    requires { ⌜ (r < run-limit) × (x .kind < kind-limit) ⌝ }
+    ensures { λ m. ⌜ Finds (Linked (now (pairs .entry)) r (as-step x)) (now (catalogue .entry)) m ⌝ }
+{
+    let mut m = conflicting(pairs, catalogue, r, x);
+    bits::add_row(&mut m, catalogue, part_row(r, x, RUN_PART));
+    m
+}
+
+// The places on which a place depends, from those on which it directly depends, the last first. One that is in the row already adds nothing: with it
+// the row has all that it depends on.
+fn dependence_row(dep: &Table, linked: &Row) -> Row
+    ensures { λ m. ⌜ RowFrom (now (dep .entry)) (now (linked .entry)) m ⌝ }
+{
+    let mut m = [0; bits::ROW_WORDS];
+    let mut end = bits::ROW_BITS;
+    while end > 0 {
+        match bits::last_outside(linked, &m) {
+            Found::At(p) => {
+                bits::add_row(&mut m, dep, p);
+                bits::add(&mut m, p);
+                end = p;
+            }
+            Found::Nothing => {
+                return m;
+            }
         }
-        return true;
     }
-    false
+    m
 }
 
-// The row of place q, from the rows of the places before it. A place that the row marks already adds nothing: with it the row has all that it depends on.
-fn dependence_row(
-    history: &[u8; Book::STEPS],
-    steps: &[u32; Book::STEPS],
+// Reads one more step, x of run r, as place q. The catalogue and the dependence table are those of the steps read before, at first all zero.
+pub fn read_step(
     pairs: &[u8; Book::PAIRS_SIZE],
     q: usize,
+    r: usize,
+    x: Step,
+    catalogue: &mut Table,
     dep: &mut Table,
 )
-    requires { ⌜ (q < step-limit) × Small code-limit (now steps) ⌝ }
-    ensures { λ r. ⌜ StepRead (Link (now (history .entry)) (now (steps .entry)) (now (pairs .entry))) (now (dep .entry)) (now (dep .exit)) q ⌝ }
+    requires { ⌜ (q < step-limit) × (r < run-limit) × (x .kind < kind-limit) ⌝ }
+    ensures { λ _. ⌜ StepRead (now (pairs .entry)) (now (catalogue .entry)) (now (catalogue .exit)) (now (dep .entry)) (now (dep .exit)) q r (as-step x) ⌝ }
 {
-    let mut p = q;
-    while p > 0 {
-        p -= 1;
-        if fresh(history, steps, pairs, dep, p, q) {
-            bits::join(dep, q, p);
-            bits::mark(dep, q, p);
-        }
-    }
+    let linked = direct_row(pairs, catalogue, r, x);
+    let row = dependence_row(dep, &linked);
+    bits::set_row(dep, q, &row);
+    enter(catalogue, q, r, x);
 }
 
-// The rows of the first n places, in one pass.
-fn dependence_rows(
-    history: &[u8; Book::STEPS],
-    steps: &[u32; Book::STEPS],
-    pairs: &[u8; Book::PAIRS_SIZE],
+// Reads the first n steps of the history, one by one. `next` has the next step of each run.
+fn read_steps<'a>(
+    history: &'a [u8; Book::STEPS],
     n: usize,
+    steps: &'a [u32; Book::STEPS],
+    pairs: &'a [u8; Book::PAIRS_SIZE],
+    next: &mut [u8; Book::RUNS],
     dep: &mut Table,
 )
-    requires { ⌜ (n ≤ step-limit) × Small code-limit (now steps) ⌝ }
-    ensures { λ r. ⌜ StepsRead (Link (now (history .entry)) (now (steps .entry)) (now (pairs .entry))) (now (dep .exit)) n ⌝ }
+    requires { ⌜ HistoryOf (now history) n × StepsRoom (take n (now history)) (now next) × Small code-limit (now steps) ⌝ }
+    ensures { λ _. ⌜ HistoryRead (now (pairs .entry)) (take n (now (history .entry))) (now (next .entry)) (now (steps .entry)) (now (dep .exit)) ⌝ }
 {
     *dep = [0; bits::TABLE_WORDS];
+    let mut catalogue = [0; bits::TABLE_WORDS];
     let mut q = 0;
     while q < n {
-        dependence_row(history, steps, pairs, q, dep);
+        sized_by_run(*next);
+        let r = run_of(history, q);
+        let i = next[r];
+        let x = step_at(steps, book::wide(i));
+        next[r] = i + 1;
+        read_step(pairs, q, r, x, &mut catalogue, dep);
         q += 1;
     }
 }
@@ -222,16 +259,9 @@ pub fn dependences(b: Book, dep: &mut Table)
     requires { ⌜ Valid b ⌝ }
     ensures { λ r. ⌜ Marks (Depends (conflict-of (contents-of b)) (contents-of b .history)) (now (dep .exit)) ⌝ }
 {
-    let history = b.history;
-    let lengths = b.lengths;
-    let steps = b.steps;
-    let pairs = b.pairs;
-    let n = b.done;
     let mut next = [0u8; Book::RUNS];
-    starts(&lengths, &mut next);
-    let mut steps_at = [0u32; Book::STEPS];
-    by_place(&history, n, &steps, &mut next, &mut steps_at);
-    dependence_rows(&history, &steps_at, &pairs, n, dep);
+    starts(&b.lengths, &mut next);
+    read_steps(&b.history, b.done, &b.steps, &b.pairs, &mut next, dep);
 }
 
 // The ordinal of each place, and the place of each step.

@@ -13,7 +13,7 @@ use lib.Seq.{take-append-le, take-append-seam, getD-append-seam}
 use lib.Dec.{eqb}
 use borrow.Author.Tests.{ne-eqb}
 use Rattle.theory.specs.History.{suc-if, count, run, ordinal, Same, only, project}
-use Rattle.theory.specs.Relative.{Agrees, RelativelySerial, RelativelySerializable}
+use Rattle.theory.specs.Relative.{Conflicting, DirectlyDepends, Depends, direct, through, Agrees, RelativelySerial, RelativelySerializable}
 use Rattle.theory.specs.inner.Places.{place-if, place-of}
 use Rattle.theory.proofs.Lists.{suc-if-le, count-append, length-snoc}
 use Rattle.theory.proofs.Places.{Compared, eq-cases, pull, place-of-back, ordinal-lt}
@@ -36,6 +36,42 @@ place-if-mono false false i j m n f f′ g g′ p q k h = suc-le-suc (k i j p q 
 pub front : (h m : List ℕ) (p : ℕ) → p < length h → Same h p (h ++ m) p
 unfolding ordinal
 front h m p i = let k : p ≤ length h = omega arith in record { runs = List·getD-append h m 0 p i; ordinals = rw (List·getD-append h m 0 p i, take-append-le p h m k) }
+
+-- a step depends on the same earlier ones where the list goes on
+module _ (conflict : ℕ → ℕ → ℕ → ℕ → Bool) (h m : List ℕ) where
+  front-direct : {p q : ℕ} → DirectlyDepends conflict h p q → DirectlyDepends conflict (h ++ m) p q
+  front-direct {p} {q} d = record { before = d .before; inside = omega (arith, d .inside, length-append h m); linked = go (d .linked) }
+    where
+      sp : Same h p (h ++ m) p
+      sp = front h m p (omega (arith, d .before, d .inside))
+
+      sq : Same h q (h ++ m) q
+      sq = front h m q (d .inside)
+
+      go : (run h p ≡ run h q) ⊎ Conflicting conflict h p q → (run (h ++ m) p ≡ run (h ++ m) q) ⊎ Conflicting conflict (h ++ m) p q
+      go (inl e) = inl (sp .runs ∙ e ∙ sym (sq .runs))
+      go (inr c) = inr (conf-cast conflict sp sq c)
+
+  direct-front : {p q : ℕ} → q < length h → DirectlyDepends conflict (h ++ m) p q → DirectlyDepends conflict h p q
+  direct-front {p} {q} i d = record { before = d .before; inside = i; linked = go (d .linked) }
+    where
+      sp : Same h p (h ++ m) p
+      sp = front h m p (omega (arith, d .before))
+
+      sq : Same h q (h ++ m) q
+      sq = front h m q i
+
+      go : (run (h ++ m) p ≡ run (h ++ m) q) ⊎ Conflicting conflict (h ++ m) p q → (run h p ≡ run h q) ⊎ Conflicting conflict h p q
+      go (inl e) = inl (sym (sp .runs) ∙ e ∙ sq .runs)
+      go (inr c) = inr (conf-cast conflict (same-sym sp) (same-sym sq) c)
+
+  pub front-depends : {p q : ℕ} → Depends conflict h p q → Depends conflict (h ++ m) p q
+  front-depends (direct d) = direct (front-direct d)
+  front-depends (through e d) = through (front-depends e) (front-direct d)
+
+  pub depends-front : {p q : ℕ} → q < length h → Depends conflict (h ++ m) p q → Depends conflict h p q
+  depends-front i (direct d) = direct (direct-front i d)
+  depends-front i (through e d) = through (depends-front (omega (arith, d .before)) e) (direct-front i d)
 
 -- m: l's steps that are steps of b, in l's order
 pub record Restricted (b l m : List ℕ) : Type 0 where

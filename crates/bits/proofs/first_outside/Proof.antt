@@ -1,9 +1,9 @@
 -- Before each turn no earlier word has a column of the row outside the mask, and trailing zeros find the first one of a word.
-use mathlib.Core.Path.{_≡_, _∙_}
-use Prim.Native.Nat.{ℕ, _-_, _/_, _%_, min}
+use mathlib.Core.Path.{refl}
+use Prim.Native.Nat.{_-_, min}
 use native.Mathlib.Omega.{arith}
 use lib.Count.{trailing-le}
-use Rattle.bits.specs.Table.{row-words, bit, bit-at, difference}
+use Rattle.bits.specs.Table.{row-words, bit-at, difference}
 use Rattle.bits.proofs.Store.{in-words}
 use Rattle.bits.proofs.Scan.{NoneYet, none-yet-start, none-yet-end, none-yet-more, found-at, lowest}
 use borrow.Author.Needs.{needs}
@@ -40,12 +40,6 @@ element-copy-out-outside-2 c = search needs
 outside-requires : tie.Need-outside-requires Inv-loop μ-loop
 outside-requires c κs = search needs
 
--- the word that is searched has the columns of the row outside the mask
-columns : (c : tie.After-outside Inv-loop μ-loop) (x : ℕ) → x / 64 ≡ c .before .before .before .before .loop .k
-    → bit (c .outside .result) (x % 64)
-    ≡ (let a = c .before .before .before .before .before .args in difference (bit-at (a .t .now) (a .row)) (bit-at (a .mask .now) 0) x)
-columns c x e = c .outside .ensures (x % 64) (omega arith) ∙ in-words (λ x y. min x (1 - y)) _ _ _ _ x e
-
 cast-b : tie.Need-cast-b Inv-loop μ-loop
 cast-b c = omega (arith, trailing-le 64 (c .outside .result))
 
@@ -58,7 +52,7 @@ add-t20 c = search needs
 returns : tie.Need-returns Inv-loop μ-loop
 returns c =
     let h = c .before .before .before .before .before in
-    found-at (h .loop .inv) (lowest (c .before .outside .result)) (columns (c .before)) (omega arith) (omega arith)
+    found-at (h .loop .inv) (lowest (c .before .outside .result)) (in-words (λ x y. min x (1 - y)) _ _ _ _ _ _ refl (c .before .outside .ensures)) (omega arith) (omega arith)
 
 add-k : tie.Need-add-k Inv-loop μ-loop
 add-k c = search needs
@@ -69,7 +63,7 @@ loop-less c = search needs
 loop-again : tie.Need-loop-again Inv-loop μ-loop
 loop-again c =
     let h = c .before .before .before .before .before in
-    none-yet-more (h .loop .inv) (lowest (c .before .outside .result)) (columns (c .before)) (omega arith)
+    none-yet-more (h .loop .inv) (lowest (c .before .outside .result)) (in-words (λ x y. min x (1 - y)) _ _ _ _ _ _ refl (c .before .outside .ensures)) (omega arith)
 
 returns-2 : tie.Need-returns-2 Inv-loop μ-loop
 returns-2 c = none-yet-end (omega arith) (c .before .loop .inv)

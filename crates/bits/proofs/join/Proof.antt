@@ -1,10 +1,11 @@
 -- After k turns the first k words of the row dst are those of the union, and all other words are as they were.
-use Prim.Native.Nat.{_-_}
-use mathlib.Core.Path.{_≡_}
+use Prim.Native.Nat.{_-_, max}
+use mathlib.Core.Path.{_≡_, refl}
 use native.Mathlib.Omega.{arith}
 use lib.ListN.{length}
 use Rattle.bits.specs.Table.{row-words, table-words, bit-at, union}
-use Rattle.bits.proofs.Store.{ReplacedUpTo, replaced-none, replaced-all, union-more, kept}
+use Rattle.bits.proofs.Word.{bit-or}
+use Rattle.bits.proofs.Store.{ReplacedUpTo, replaced-none, replaced-all, combined-more, kept}
 use borrow.Author.Needs.{needs}
 use Rattle.bits.proofs.join.Statement.{statement}
 use Rattle.bits.proofs.join.Tie as tie
@@ -62,8 +63,8 @@ loop-again c =
     let h = c .before .before .before in
     let a = h .before .before .before .args in (
       h .loop .inv .0,
-      union-more _ _ (a .dst) _ _ _ (omega arith) (omega arith) (h .loop .inv .1)
-          (λ x e. kept (a .src) x (omega arith) e (h .loop .inv .1)),
+      combined-more max _ _ (a .dst) _ _ _ _ _ (omega arith) (omega arith) (omega arith) (h .loop .inv .1)
+          (bit-or _ _) (λ x e. kept _ (a .src) x refl (omega arith) e (h .loop .inv .1)),
     )
 
 returns : tie.Need-returns Inv-loop μ-loop

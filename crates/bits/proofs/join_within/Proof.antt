@@ -1,11 +1,11 @@
 -- After k turns the first k words of the row dst are those of the union with what the row src has in the mask.
-use Prim.Native.Nat.{_-_, _%_, min}
-use mathlib.Core.Path.{_≡_, _∙_}
-use Rattle.bits.proofs.Word.{bit-and}
+use Prim.Native.Nat.{_-_, min, max}
+use mathlib.Core.Path.{_≡_, refl}
+use Rattle.bits.proofs.Word.{bit-and, bit-or}
 use native.Mathlib.Omega.{arith}
 use lib.ListN.{length}
 use Rattle.bits.specs.Table.{row-words, table-words, bit-at, union, intersection}
-use Rattle.bits.proofs.Store.{ReplacedUpTo, replaced-none, replaced-all, union-more, in-words}
+use Rattle.bits.proofs.Store.{ReplacedUpTo, replaced-none, replaced-all, combined-more, in-words}
 use borrow.Author.Needs.{needs}
 use Rattle.bits.proofs.join_within.Statement.{statement}
 use Rattle.bits.proofs.join_within.Tie as tie
@@ -70,8 +70,8 @@ loop-again c =
     let h = c .before .before .before .before in
     let a = h .before .before .before .args in (
       h .loop .inv .0,
-      union-more _ _ (a .dst) _ _ _ (omega arith) (omega arith) (h .loop .inv .1)
-          (λ x e. bit-and _ _ (x % 64) ∙ in-words min _ _ _ _ x e),
+      combined-more max _ _ (a .dst) _ _ _ _ _ (omega arith) (omega arith) (omega arith) (h .loop .inv .1)
+          (bit-or _ _) (in-words min _ _ _ _ _ _ refl (λ j l. bit-and _ _ j)),
     )
 
 returns : tie.Need-returns Inv-loop μ-loop

@@ -1,21 +1,22 @@
 -- After k turns the first k words of the row are copied.
 use Prim.Native.Nat.{_-_}
 use mathlib.Core.Path.{_≡_}
+use native.Mathlib.Omega.{arith}
 use lib.ListN.{length}
 use Rattle.bits.specs.Table.{row-words, bit-at}
-use Rattle.bits.proofs.Store.{ReplacedUpTo, copied-none, copied-more, copied-all}
+use Rattle.bits.proofs.Store.{ReplacedUpTo, replaced-none, copied-more, copied-all}
 use borrow.Author.Needs.{needs}
 use Rattle.bits.proofs.row_of.Statement.{statement}
 use Rattle.bits.proofs.row_of.Tie as tie
 
 abbrev Inv-loop : tie.InvT-loop
-Inv-loop t row m₀ k₀ m k = (length m ≡ row-words) × ReplacedUpTo m₀ m 0 (bit-at t row) k
+Inv-loop t row m₀ k₀ m k = (length m₀ ≡ row-words) × ReplacedUpTo m₀ m 0 (bit-at t row) k
 
 abbrev μ-loop : tie.MeasureT-loop
 μ-loop t row m₀ k₀ m k = row-words - k
 
 loop-holds : tie.Need-loop-holds Inv-loop μ-loop
-loop-holds c = (search needs, search copied-none)
+loop-holds c = (search needs, replaced-none _ _ _)
 
 mul-m : tie.Need-mul-m Inv-loop μ-loop
 mul-m c = search needs
@@ -42,10 +43,15 @@ loop-less : tie.Need-loop-less Inv-loop μ-loop
 loop-less c = search needs
 
 loop-again : tie.Need-loop-again Inv-loop μ-loop
-loop-again c = (search needs, search copied-more)
+loop-again c =
+    let h = c .before .before in
+    let a = h .before .args in (
+      h .loop .inv .0,
+      copied-more _ _ _ 0 (a .row) _ _ _ (omega arith) (omega arith) (omega arith) (omega arith) (h .loop .inv .1),
+    )
 
 returns : tie.Need-returns Inv-loop μ-loop
-returns c = search copied-all
+returns c = copied-all (omega arith) (c .before .loop .inv .1)
 
 pub row-of-spec : {M : Type 1} → statement M
 row-of-spec =

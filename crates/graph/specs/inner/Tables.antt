@@ -11,7 +11,7 @@ use Rattle.book.specs.Book.{cuts-size, run-cuts, code-limit, step-coded, as-ste
 use Rattle.book.specs.declared.Step.{Step as StepValue}
 use Rattle.theory.specs.Lists.{sum}
 use Rattle.theory.specs.History.{count, run, ordinal}
-use Rattle.theory.specs.Deck.{Step, steps-conflict}
+use Rattle.theory.specs.Deck.{Step, step-of}
 use Rattle.theory.specs.inner.Places.{place-of}
 use Rattle.bits.specs.Table.{bit-at}
 use Rattle.graph.specs.Units.{EachPlace}
@@ -40,7 +40,7 @@ pub record NumberAt (t : List ℕ) (i m r : ℕ) : Type 0 where
   pub is : r ≡ getD t i 0
   pub small : r < m
 
--- ---- the steps by place
+-- ---- the steps of a history
 
 -- run r's steps begin where the steps of the runs before it end
 pub record Starts (lengths starts : List ℕ) : Type 0 where
@@ -49,11 +49,6 @@ pub record Starts (lengths starts : List ℕ) : Type 0 where
 -- the steps of h, of which run r's begin at starts r, are among step-limit
 pub record StepsRoom (h starts : List ℕ) : Type 0 where
   pub room : (r i : ℕ) → r < run-limit → i < count h r → getD starts r 0 + i < step-limit
-
--- at the place of a step stands in steps-at the code that steps has of it
-pub record StepsByPlace (h starts steps steps-at : List ℕ) (n : ℕ) : Type 0 where
-  pub at : (p : ℕ) → p < n → getD steps-at p 0 ≡ getD steps (getD starts (run h p) 0 + ordinal h p) 0
-  pub small : Small code-limit steps-at
 
 -- the step of a code in a table
 abbrev pub step-in : List ℕ → ℕ → Step
@@ -64,14 +59,9 @@ pub record StepAt (steps : List ℕ) (i : ℕ) (x : StepValue) : Type 0 where
   pub is : as-step x ≡ step-in steps i
   pub kind : x .kind < kind-limit
 
--- what a direct dependence of q on an earlier place p asks, of codes by place
-abbrev pub Link : List ℕ → List ℕ → List ℕ → ℕ → ℕ → Type 0
-Link history steps pairs p q = (getD history p 0 ≡ getD history q 0) ⊎ T (steps-conflict (pairs-of pairs) (step-in steps p) (step-in steps q))
-
--- true only where q is linked to p; false only where it is not, or t tells already that q depends on p
-pub record Fresh (L : ℕ → ℕ → Type 0) (t : List ℕ) (p q : ℕ) (answer : Bool) : Type 0 where
-  pub linked : answer ≡ true → L p q
-  pub known : answer ≡ false → L p q → bit-at t q p ≡ 1
+-- the steps of h are, in these runs, those that the table has, run r's from starts r on
+pub record StepsOf (runs : List (List Step)) (h starts steps : List ℕ) : Type 0 where
+  pub at : (p : ℕ) → p < length h → step-of runs (run h p) (ordinal h p) ≡ step-in steps (getD starts (run h p) 0 + ordinal h p)
 
 -- ---- units
 

@@ -1,0 +1,57 @@
+-- Each turn keeps the places that have one more digit of the position.
+use Prim.Native.Nat.{_≤_, _-_}
+use Rattle.book.specs.Book.{as-step}
+use Rattle.graph.specs.inner.Catalogue.{digit-parts, Finds, PairedAt}
+use Rattle.graph.proofs.Catalogue.{at-none, at-keep, at-all}
+use borrow.Author.Needs.{needs}
+use Rattle.graph.proofs.conflicting.Statement.{statement}
+use Rattle.graph.proofs.conflicting.Tie as tie
+
+abbrev Inv-loop : tie.InvT-loop
+Inv-loop pairs catalogue r x m₀ k₀ m k = (k ≤ digit-parts) × Finds (PairedAt pairs r (as-step x) k) catalogue m
+
+abbrev μ-loop : tie.MeasureT-loop
+μ-loop pairs catalogue r x m₀ k₀ m k = digit-parts - k
+
+wide-requires : tie.Need-wide-requires Inv-loop μ-loop
+wide-requires c κs = search needs
+
+paired-requires : tie.Need-paired-requires Inv-loop μ-loop
+paired-requires c κs = search needs
+
+loop-holds : tie.Need-loop-holds Inv-loop μ-loop
+loop-holds c = (search needs, search at-none)
+
+part-row-requires : tie.Need-part-row-requires Inv-loop μ-loop
+part-row-requires c κs = search needs
+
+keep-row-requires : tie.Need-keep-row-requires Inv-loop μ-loop
+keep-row-requires c κs = search needs
+
+add-k : tie.Need-add-k Inv-loop μ-loop
+add-k c = search needs
+
+loop-less : tie.Need-loop-less Inv-loop μ-loop
+loop-less c = search needs
+
+loop-again : tie.Need-loop-again Inv-loop μ-loop
+loop-again c = (search needs, search at-keep)
+
+returns : tie.Need-returns Inv-loop μ-loop
+returns c = search at-all
+
+pub conflicting-spec : {M : Type 1} → statement M
+conflicting-spec =
+    tie.close
+    (tie.spec
+    Inv-loop
+    μ-loop
+    wide-requires
+    paired-requires
+    loop-holds
+    part-row-requires
+    keep-row-requires
+    add-k
+    loop-less
+    loop-again
+    returns)

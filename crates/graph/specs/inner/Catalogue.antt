@@ -1,0 +1,96 @@
+-- What the functions that read a step promise one another.
+use Prim.Native.Nat.{ℕ, _+_, _*_, _/_, _%_, _<_}
+use mathlib.Core.Path.{_≡_}
+use mathlib.Core.Logic.{_⊎_}
+use mathlib.Core.Bool.{Bool}
+use mathlib.Core.List.{List}
+use lib.ListN.{length}
+use lib.Dec.{T}
+use Rattle.bits.specs.Table.{row-bits, rows, bit-at}
+use Rattle.theory.specs.History.{run}
+use Rattle.theory.specs.Deck.{Step, listed, steps-conflict, conflict}
+use Rattle.theory.specs.Relative.{DirectlyDepends, Depends}
+use Rattle.book.specs.Format.{kind-limit}
+use Rattle.book.specs.Book.{pairs-of}
+use Rattle.graph.specs.Marks.{Marks}
+use Rattle.graph.specs.Dependence.{base, part, step-at, Catalogued}
+use Rattle.graph.specs.inner.Tables.{StepsOf}
+
+-- how many parts a step has; the first of them are the digits of its position, then come its kind and its run
+abbrev pub digit-parts : ℕ
+digit-parts = 4
+
+abbrev pub kind-part : ℕ
+kind-part = 4
+
+abbrev pub run-part : ℕ
+run-part = 5
+
+abbrev pub parts : ℕ
+parts = 6
+
+-- the row of part k of a step x of run r
+pub record PartRow (r : ℕ) (x : Step) (k row : ℕ) : Type 0 where
+  pub is : row ≡ k * base + part r x k
+  pub low : part r x k < base
+  pub in-table : row < rows
+
+-- u is t with column q in the rows of the first m parts of a step x of run r
+pub record Entered (t u : List ℕ) (q r : ℕ) (x : Step) (m : ℕ) : Type 0 where
+  pub here : (k : ℕ) → k < m → bit-at u (k * base + part r x k) q ≡ 1
+  pub other : (y p : ℕ) → p < row-bits → (p ≡ q → y / base < m → part r x (y / base) ≡ y % base → ⊥) → bit-at u y p ≡ bit-at t y p
+
+-- place p of h has a run and a step of which P holds
+pub record Has (P : ℕ → Step → Type 0) (runs : List (List Step)) (h : List ℕ) (p : ℕ) : Type 0 where
+  pub inside : p < length h
+  pub holds : P (run h p) (step-at runs h p)
+
+-- the columns of m are those places, of any history whose catalogue this is
+pub record Finds (P : ℕ → Step → Type 0) (catalogue m : List ℕ) : Type 0 where
+  pub sound : (runs : List (List Step)) (h : List ℕ) → Catalogued runs h catalogue → (p : ℕ) → p < row-bits → bit-at m 0 p ≡ 1 → Has P runs h p
+  pub complete : (runs : List (List Step)) (h : List ℕ) → Catalogued runs h catalogue → (p : ℕ) → p < row-bits → Has P runs h p → bit-at m 0 p ≡ 1
+
+-- the kind of y is below m, and paired with this one
+pub record Paired (pairs : List ℕ) (kind m r : ℕ) (y : Step) : Type 0 where
+  pub low : y .kind < m
+  pub paired : T (listed (pairs-of pairs) (y .kind) kind)
+
+-- m′ has the places of m, and those of kind k too if it is paired with this kind
+pub record KindAdded (pairs catalogue : List ℕ) (kind k : ℕ) (m m′ : List ℕ) : Type 0 where
+  pub more : Finds (Paired pairs kind k) catalogue m → Finds (Paired pairs kind (k + 1)) catalogue m′
+
+-- the kind of a step y of run s is paired with that of a step x of run r, and their first m parts are the same
+pub record PairedAt (pairs : List ℕ) (r : ℕ) (x : Step) (m s : ℕ) (y : Step) : Type 0 where
+  pub kinds : Paired pairs (x .kind) kind-limit s y
+  pub same : (k : ℕ) → k < m → part s y k ≡ part r x k
+
+-- a step y of run s on which a later step x of run r directly depends
+abbrev pub Linked : List ℕ → ℕ → Step → ℕ → Step → Type 0
+Linked pairs r x s y = (s ≡ r) ⊎ T (steps-conflict (pairs-of pairs) y x)
+
+-- ---- the row of a place
+
+-- y is one of the first q steps of h, and depends on x
+pub record DependsSoFar (conflict : ℕ → ℕ → ℕ → ℕ → Bool) (h : List ℕ) (q x y : ℕ) : Type 0 where
+  pub so-far : y < q
+  pub depends : Depends conflict h x y
+
+-- the columns of m are the places on which place q directly depends
+pub record DirectRow (conflict : ℕ → ℕ → ℕ → ℕ → Bool) (h : List ℕ) (q : ℕ) (m : List ℕ) : Type 0 where
+  pub sound : (p : ℕ) → p < row-bits → bit-at m 0 p ≡ 1 → DirectlyDepends conflict h p q
+  pub complete : (p : ℕ) → p < row-bits → DirectlyDepends conflict h p q → bit-at m 0 p ≡ 1
+
+-- the columns of m are the places on which place q depends
+pub record DependenceRow (conflict : ℕ → ℕ → ℕ → ℕ → Bool) (h : List ℕ) (q : ℕ) (m : List ℕ) : Type 0 where
+  pub sound : (p : ℕ) → p < row-bits → bit-at m 0 p ≡ 1 → Depends conflict h p q
+  pub complete : (p : ℕ) → p < row-bits → Depends conflict h p q → bit-at m 0 p ≡ 1
+
+-- m is the dependence row of any place q, of any history, whose direct row this is and whose earlier rows these are
+pub record RowFrom (dep linked m : List ℕ) : Type 0 where
+  pub row : (conflict : ℕ → ℕ → ℕ → ℕ → Bool) (h : List ℕ) (q : ℕ) → q < rows → DirectRow conflict h q linked → Marks (DependsSoFar conflict h q) dep → DependenceRow conflict h q m
+
+-- ---- the rows of a history
+
+-- dep is the dependence table of h, for any runs whose steps these are
+pub record HistoryRead (pairs h starts steps dep : List ℕ) : Type 0 where
+  pub rows : (runs : List (List Step)) → StepsOf runs h starts steps → Marks (Depends (conflict (pairs-of pairs) runs) h) dep
