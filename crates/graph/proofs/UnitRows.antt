@@ -42,12 +42,11 @@ row-more t u p o x v w i hp l e = record {
 pub set-row-more : (t u : List ℕ) (p o : ℕ) → RowSet t u p (λ _. p) o → o < run-limit → p < step-limit → length u ≡ units-size → RowSet t (set u (p * run-limit + o) p) p (λ _. p) (o + 1)
 set-row-more t u p o w i hp l = row-more t u p o p (λ _. p) w i hp l refl
 
-module _ (cuts : List ℕ) (at : ℕ) (t : List ℕ) (p from : ℕ) (u : List ℕ) (o : ℕ) (w : RowSet t u p (copied-row cuts at t p from) o) (i : o < run-limit) (r : RowRoom at p from) (l : length u ≡ units-size) (y : List ℕ) where
-  pub copy-row-same : getD cuts (at + o) 0 ≡ 0 → y ≡ set u (p * run-limit + o) (getD u (from * run-limit + o) 0) → RowSet t y p (copied-row cuts at t p from) (o + 1)
-  copy-row-same z e = rw e (row-more t u p o (getD u (from * run-limit + o) 0) (copied-row cuts at t p from) w i (r .to-row) l (w .others from o i (r .apart) ∙ sym (flag-none (getD cuts (at + o) 0) (getD t (from * run-limit + o) 0) p z)))
-
-  pub copy-row-own : (getD cuts (at + o) 0 ≡ 0 → ⊥) → y ≡ set u (p * run-limit + o) p → RowSet t y p (copied-row cuts at t p from) (o + 1)
-  copy-row-own n e = rw e (row-more t u p o p (copied-row cuts at t p from) w i (r .to-row) l (sym (flag-some (getD cuts (at + o) 0) (getD t (from * run-limit + o) 0) p n)))
+pub copy-row-more : (cuts : List ℕ) (at : ℕ) (t : List ℕ) (p from : ℕ) (u : List ℕ) (o x : ℕ) → RowSet t u p (copied-row cuts at t p from) o → o < run-limit → RowRoom at p from
+    → length u ≡ units-size → x ≡ by-flag (getD cuts (at + o) 0) (getD u (from * run-limit + o) 0) p → RowSet t (set u (p * run-limit + o) x) p (copied-row cuts at t p from) (o + 1)
+copy-row-more cuts at t p from u o x w i r l e =
+    row-more t u p o x (copied-row cuts at t p from) w i (r .to-row) l
+    (e ∙ ap (λ (a : ℕ). by-flag (getD cuts (at + o) 0) a p) (w .others from o i (r .apart)))
 
 -- ---- a table filled row by row
 

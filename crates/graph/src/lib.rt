@@ -19,7 +19,7 @@ ghost use Rattle.graph.specs.Marks.{Marks};
 ghost use Rattle.graph.specs.Units.{units-size, UnchangedFrom, UnitTables};
 ghost use Rattle.graph.specs.Dependence.{StepRead};
 ghost use Rattle.graph.specs.inner.Catalogue.{digit-parts, parts, PartRow, Entered, Finds, Paired, KindAdded, PairedAt, Linked, RowFrom, HistoryRead};
-ghost use Rattle.graph.specs.inner.Tables.{places-size, Small, HistoryOf, Declared, NumberAt, StepAt, Starts, StepsRoom, Numbering, Counts, EachBy, RowRoom, RowSet, copied-row};
+ghost use Rattle.graph.specs.inner.Tables.{places-size, Small, HistoryOf, Declared, NumberAt, StepAt, Starts, StepsRoom, Numbering, Counts, EachBy, RowRoom, RowSet, by-flag, copied-row};
 ghost use Rattle.graph.specs.inner.Arcs.{ArcOf, ArcOfPlaces, InRun, TablesOf, GainedBy, ArcRows, ArcInput, Rowed};
 ghost use Rattle.bits.specs.Table.{bit-at, intersection};
 ghost use Rattle.bits.specs.Last.{LastAt};
@@ -302,6 +302,13 @@ fn set_row(t: &mut Units, p: usize)
     }
 }
 
+// a where there is no flag, b where there is one.
+fn by_flag(flag: u8, a: u8, b: u8) -> u8
+    ensures { λ r. ⌜ r ≡ by-flag flag a b ⌝ }
+{
+    if flag == 0 { a } else { b }
+}
+
 // Sets the row of p to the row of the step next to it, but for the runs that see a cut between the two to p itself.
 fn copy_row(cuts: &[u8; Book::CUTS_SIZE], at: usize, t: &mut Units, p: usize, from: usize)
     requires { ⌜ RowRoom at p from ⌝ }
@@ -310,11 +317,7 @@ fn copy_row(cuts: &[u8; Book::CUTS_SIZE], at: usize, t: &mut Units, p: usize, fr
     let mut o = 0;
     while o < Book::RUNS {
         sized_units(*t);
-        if cuts[at + o] == 0 {
-            t[p * Book::RUNS + o] = t[from * Book::RUNS + o];
-        } else {
-            t[p * Book::RUNS + o] = p as u8;
-        }
+        t[p * Book::RUNS + o] = by_flag(cuts[at + o], t[from * Book::RUNS + o], p as u8);
         o += 1;
     }
 }

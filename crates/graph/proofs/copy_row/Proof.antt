@@ -1,9 +1,8 @@
 -- Each turn sets one more of the row, by the flag of the run.
 use Prim.Native.Nat.{_-_}
-use mathlib.Core.Logic.{⊎-elim}
 use Rattle.book.specs.Format.{run-limit}
 use Rattle.graph.specs.inner.Tables.{RowSet, copied-row}
-use Rattle.graph.proofs.UnitRows.{row-none, copy-row-same, copy-row-own, row-end}
+use Rattle.graph.proofs.UnitRows.{row-none, copy-row-more, row-end}
 use borrow.Author.Needs.{needs}
 use Rattle.graph.proofs.copy_row.Statement.{statement}
 use Rattle.graph.proofs.copy_row.Tie as tie
@@ -20,11 +19,26 @@ loop-holds c = search row-none
 sized-units-requires : tie.Need-sized-units-requires Inv-loop μ-loop
 sized-units-requires c κs = search needs
 
-add-if1 : tie.Need-add-if1 Inv-loop μ-loop
-add-if1 c = search needs
+add-by-flag : tie.Need-add-by-flag Inv-loop μ-loop
+add-by-flag c = search needs
 
-element-copy-out-if1 : tie.Need-element-copy-out-if1 Inv-loop μ-loop
-element-copy-out-if1 c = search needs
+element-copy-out-by-flag : tie.Need-element-copy-out-by-flag Inv-loop μ-loop
+element-copy-out-by-flag c = search needs
+
+mul-by-flag : tie.Need-mul-by-flag Inv-loop μ-loop
+mul-by-flag c = search needs
+
+add-by-flag-2 : tie.Need-add-by-flag-2 Inv-loop μ-loop
+add-by-flag-2 c = search needs
+
+element-copy-out-by-flag-2 : tie.Need-element-copy-out-by-flag-2 Inv-loop μ-loop
+element-copy-out-by-flag-2 c = search needs
+
+cast-by-flag : tie.Need-cast-by-flag Inv-loop μ-loop
+cast-by-flag c = search needs
+
+by-flag-requires : tie.Need-by-flag-requires Inv-loop μ-loop
+by-flag-requires c κs = search needs
 
 mul-t : tie.Need-mul-t Inv-loop μ-loop
 mul-t c = search needs
@@ -32,29 +46,8 @@ mul-t c = search needs
 add-t : tie.Need-add-t Inv-loop μ-loop
 add-t c = search needs
 
-element-copy-out-t : tie.Need-element-copy-out-t Inv-loop μ-loop
-element-copy-out-t c = search needs
-
-mul-t-2 : tie.Need-mul-t-2 Inv-loop μ-loop
-mul-t-2 c = search needs
-
-add-t-2 : tie.Need-add-t-2 Inv-loop μ-loop
-add-t-2 c = search needs
-
 element-write-t : tie.Need-element-write-t Inv-loop μ-loop
 element-write-t c = search needs
-
-cast-t : tie.Need-cast-t Inv-loop μ-loop
-cast-t c = search needs
-
-mul-t-3 : tie.Need-mul-t-3 Inv-loop μ-loop
-mul-t-3 c = search needs
-
-add-t-3 : tie.Need-add-t-3 Inv-loop μ-loop
-add-t-3 c = search needs
-
-element-write-t-2 : tie.Need-element-write-t-2 Inv-loop μ-loop
-element-write-t-2 c = search needs
 
 add-o : tie.Need-add-o Inv-loop μ-loop
 add-o c = search needs
@@ -63,7 +56,7 @@ loop-less : tie.Need-loop-less Inv-loop μ-loop
 loop-less c = search needs
 
 loop-again : tie.Need-loop-again Inv-loop μ-loop
-loop-again c = ⊎-elim (λ w. search copy-row-same) (λ w. search copy-row-own) (c .if1 .came)
+loop-again c = search copy-row-more
 
 returns : tie.Need-returns Inv-loop μ-loop
 returns c = search row-end
@@ -76,18 +69,16 @@ copy-row-spec =
     μ-loop
     loop-holds
     sized-units-requires
-    add-if1
-    element-copy-out-if1
+    add-by-flag
+    element-copy-out-by-flag
+    mul-by-flag
+    add-by-flag-2
+    element-copy-out-by-flag-2
+    cast-by-flag
+    by-flag-requires
     mul-t
     add-t
-    element-copy-out-t
-    mul-t-2
-    add-t-2
     element-write-t
-    cast-t
-    mul-t-3
-    add-t-3
-    element-write-t-2
     add-o
     loop-less
     loop-again
