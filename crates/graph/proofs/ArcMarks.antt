@@ -19,8 +19,10 @@ use Rattle.theory.proofs.Steps.{dep-lt, dep-inside}
 use Rattle.book.specs.Format.{run-limit, step-limit}
 use Rattle.graph.specs.Marks.{Marks}
 use Rattle.graph.specs.Units.{EachPlace}
+use Rattle.graph.specs.Dependence.{base}
+use Rattle.graph.specs.inner.Catalogue.{run-part}
 use Rattle.graph.specs.inner.Tables.{HistoryOf, Declared, NumberAt}
-use Rattle.graph.specs.inner.Arcs.{Gained, ArcOf, by-I, by-D, by-F, by-B, Below, ArcOfPlaces, ArcOfRuns, InRun, TablesOf, GainedBy, ArcRows, ArcInput, Rowed}
+use Rattle.graph.specs.inner.Arcs.{Gained, ArcOf, by-I, by-D, by-F, by-B, Below, ArcOfPlaces, ArcOfRuns, RunRows, TablesOf, GainedBy, ArcRows, ArcInput, Rowed}
 use Rattle.graph.proofs.Counting.{low, clash, below-next, history-length, history-run, history-small}
 use Rattle.graph.proofs.UnitSteps.{own-depends, LastSource, last-own, own-last, last-covers, last-unique, first-unique}
 
@@ -324,41 +326,18 @@ runs-all history n dep firsts lasts r m declared u hs ds l g = record {
 
 -- ---- the places of each run
 
-pub masks-none : (h : List ℕ) (m : ℕ) → Marks (InRun h 0) (replicate m 0)
-masks-none h m = record { sound = λ x y hx hy e. absurd (clash (zeros-bit m y x) e); complete = λ x y hx hy k. absurd (low x (k .below)) }
-
-pub masks-more : (history : List ℕ) (n p r : ℕ) (t u : List ℕ) → p < n → NumberAt history p run-limit r → Marked t u r p → Marks (InRun (take n history) p) t → Marks (InRun (take n history) (p + 1)) u
-masks-more history n p r t u i z s w = record {
-  sound = λ x y hx hy e. sound-at x y hx hy (gained-mark t u r p s .sound x y hx hy e);
-  complete = λ x y hx hy k. complete-at x y hx hy k (below-next x p (k .below));
-}
-  where
-    is-run : run (take n history) p ≡ r
-    is-run = history-run history n p i ∙ sym (z .is)
-
-    sound-at : (x y : ℕ) → x < row-bits → y < rows → (bit-at t y x ≡ 1) ⊎ Spot r p x y → InRun (take n history) (p + 1) x y
-    sound-at x y hx hy (inl e) = let k = w .sound x y hx hy e in record { below = omega (arith, k .below); runs = k .runs }
-    sound-at x y hx hy (inr k) = record { below = omega (arith, k .0); runs = rw (k .0, k .1) is-run }
-
-    complete-at : (x y : ℕ) → x < row-bits → y < rows → InRun (take n history) (p + 1) x y → (x ≡ p) ⊎ (x < p) → bit-at u y x ≡ 1
-    complete-at x y hx hy k (inl e) = gained-mark t u r p s .gains x y hx hy (e, sym (k .runs) ∙ ap (run (take n history)) e ∙ is-run)
-    complete-at x y hx hy k (inr l) = gained-mark t u r p s .keeps x y hx hy (w .complete x y hx hy (record { below = l; runs = k .runs }))
-
-pub masks-all : (h : List ℕ) (n p : ℕ) (t : List ℕ) → p ≤ n → n ≤ p → Marks (InRun h p) t → Marks (InRun h n) t
-masks-all h n p t a b w = let e : p ≡ n = omega arith in rw e at w
-
-pub mask-input : (history : List ℕ) (n : ℕ) (dep firsts lasts masks mask : List ℕ) (r declared : ℕ) → HistoryOf history n → Declared history n declared → TablesOf (take n history) dep firsts lasts
-    → Marks (InRun (take n history) n) masks → RowCopied masks r mask → r < declared
+pub mask-input : (history : List ℕ) (n : ℕ) (dep firsts lasts catalogue mask : List ℕ) (r declared : ℕ) → HistoryOf history n → Declared history n declared → TablesOf (take n history) dep firsts lasts
+    → RunRows (take n history) n catalogue → RowCopied catalogue (run-part * base + r) mask → r < declared
     → ArcInput history n dep firsts lasts mask r
-mask-input history n dep firsts lasts masks mask r declared hs ds a w c hr = record {
+mask-input history n dep firsts lasts catalogue mask r declared hs ds a w c hr = record {
   stored = hs;
   tables = a;
   mask-is = record {
     sound = λ p hp e. w .sound p r hp small (sym (c .same p hp) ∙ e);
     complete = λ p hp k. c .same p hp ∙ w .complete p r hp small k;
   };
-  small = omega (arith, ds .few);
+  small = small;
 }
   where
-    small : r < rows
+    small : r < run-limit
     small = omega (arith, ds .few)

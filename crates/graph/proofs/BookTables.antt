@@ -26,9 +26,11 @@ use Rattle.theory.proofs.Places.{Compared, eq-cases, ordinal-lt}
 use Rattle.graph.specs.Marks.{Marks}
 use Rattle.graph.specs.Units.{UnchangedFrom, UnitTables}
 use Rattle.graph.specs.inner.Tables.{Small, HistoryOf, Declared, Starts, StepsRoom, step-in, Counts, CutsOf, EachBy}
+use Rattle.graph.specs.Dependence.{StepsRead}
 use Rattle.graph.specs.inner.Catalogue.{HistoryRead}
-use Rattle.graph.specs.inner.Arcs.{TablesOf, ArcRows}
+use Rattle.graph.specs.inner.Arcs.{RunRows, TablesOf, ArcRows}
 use Rattle.graph.proofs.Counting.{history-length, history-run, history-small}
+use Rattle.graph.proofs.Catalogue.{run-rows}
 use Rattle.theory.proofs.Lists.{sum-take, sum-take-le, sum-front}
 
 -- ---- cuts
@@ -184,28 +186,36 @@ module _ (b : Book) (v : Valid b) where
 
   -- ---- dependence
 
-  pub book-dependences : (starts dep : List ℕ) → Starts (b .lengths) starts → HistoryRead (b .pairs) h starts (b .steps) dep
-      → Marks (Depends (conflict-of (contents-of b)) (contents-of b .history)) dep
+  pub book-read : (starts catalogue dep : List ℕ) → Starts (b .lengths) starts → HistoryRead (b .pairs) h starts (b .steps) catalogue dep
+      → StepsRead (contents-of b .pairs) (contents-of b .runs) (contents-of b .history) catalogue dep
   unfolding contents-of
-  book-dependences starts dep s r = r .rows (contents-of b .runs) (record { at = λ p i. step-is p i starts s })
+  book-read starts catalogue dep s r = r .read (contents-of b .runs) (record { at = λ p i. step-is p i starts s })
+
+  pub book-dependences : (catalogue dep : List ℕ) → StepsRead (contents-of b .pairs) (contents-of b .runs) (contents-of b .history) catalogue dep
+      → Marks (Depends (conflict-of (contents-of b)) (contents-of b .history)) dep
+  book-dependences catalogue dep s = s .so-far
+
+  pub book-run-rows : (catalogue dep : List ℕ) → StepsRead (contents-of b .pairs) (contents-of b .runs) (contents-of b .history) catalogue dep → RunRows h (b .done) catalogue
+  unfolding contents-of
+  book-run-rows catalogue dep s = run-rows (contents-of b .runs) h catalogue (b .done) (history-length book-history) (s .catalogued)
 
   -- ---- arcs
 
-  unfoldable pub book-tables : (dep firsts firsts′ lasts lasts′ : List ℕ) → Marks (Depends (conflict-of (contents-of b)) (contents-of b .history)) dep
+  unfoldable pub book-tables : (catalogue dep firsts firsts′ lasts lasts′ : List ℕ) → StepsRead (contents-of b .pairs) (contents-of b .runs) (contents-of b .history) catalogue dep
       → UnitTables (unit-of (contents-of b)) (contents-of b .history) firsts firsts′ lasts lasts′
       → TablesOf h dep firsts′ lasts′
   unfolding contents-of
-  book-tables dep firsts firsts′ lasts lasts′ d u = record {
+  book-tables catalogue dep firsts firsts′ lasts lasts′ d u = record {
     conflict = conflict-of (contents-of b);
     unit = unit-of (contents-of b);
     rises = book-cuts .rises;
-    dep-marks = d;
+    dep-marks = d .so-far;
     firsts-are = u .firsts-are;
     lasts-are = u .lasts-are;
   }
 
-  pub book-arcs : (dep firsts firsts′ lasts lasts′ arc : List ℕ) → Marks (Depends (conflict-of (contents-of b)) (contents-of b .history)) dep
+  pub book-arcs : (catalogue dep firsts firsts′ lasts lasts′ arc : List ℕ) → StepsRead (contents-of b .pairs) (contents-of b .runs) (contents-of b .history) catalogue dep
       → UnitTables (unit-of (contents-of b)) (contents-of b .history) firsts firsts′ lasts lasts′
       → ArcRows h dep firsts′ lasts′ arc → Marks (Arc (conflict-of (contents-of b)) (unit-of (contents-of b)) (contents-of b .history)) arc
   unfolding contents-of book-tables
-  book-arcs dep firsts firsts′ lasts lasts′ arc d u r = r .marks (book-tables dep firsts firsts′ lasts lasts′ d u)
+  book-arcs catalogue dep firsts firsts′ lasts lasts′ arc d u r = r .marks (book-tables catalogue dep firsts firsts′ lasts lasts′ d u)

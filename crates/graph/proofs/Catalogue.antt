@@ -21,6 +21,7 @@ use Rattle.book.specs.Book.{pairs-of}
 use Rattle.graph.specs.Marks.{Marks}
 use Rattle.graph.specs.Dependence.{base, part, step-at, PartIs, Catalogued}
 use Rattle.graph.specs.inner.Catalogue.{digit-parts, kind-part, run-part, parts, PartRow, Entered, Has, Finds, Paired, KindAdded, PairedAt, Linked}
+use Rattle.graph.specs.inner.Arcs.{RunRows}
 use Rattle.graph.proofs.Counting.{low, clash, below-next}
 
 -- ---- the rows of the parts
@@ -83,6 +84,12 @@ module _ (runs : List (List Step)) (h t : List ℕ) (c : Catalogued runs h t) (k
       let ek : row / base ≡ k = omega arith in
       let ev : row % base ≡ v = omega arith in
       c .marks .complete p row hp i (record { inside = j; is = ap (part (run h p) (step-at runs h p)) ek ∙ s ∙ sym ev })
+
+pub run-rows : (runs : List (List Step)) (h t : List ℕ) (n : ℕ) → length h ≡ n → Catalogued runs h t → RunRows h n t
+run-rows runs h t n e c = record {
+  sound = λ p r hp hr b. let f = in-row runs h t c run-part r (run-part * base + r) p refl (omega arith) (omega arith) hp b in record { below = rw (← e) (f .0); runs = f .1 };
+  complete = λ p r hp hr k. to-row runs h t c run-part r (run-part * base + r) p refl (omega arith) (omega arith) hp (rw e (k .below)) (k .runs);
+}
 
 module _ (pairs t : List ℕ) (kind : ℕ) where
   pub paired-none : (n : ℕ) → Finds (Paired pairs kind 0) t (replicate n 0)

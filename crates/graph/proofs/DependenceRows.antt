@@ -26,7 +26,7 @@ use Rattle.theory.proofs.Within.{front, front-depends, depends-front}
 use Rattle.book.specs.Format.{kind-limit}
 use Rattle.book.specs.Book.{pairs-of}
 use Rattle.graph.specs.Marks.{Marks}
-use Rattle.graph.specs.Dependence.{StepsRead, StepRead, step-at}
+use Rattle.graph.specs.Dependence.{step-at, Blank, StepsRead, StepRead}
 use Rattle.graph.specs.inner.Catalogue.{parts, Entered, Finds, Linked, DependsSoFar, DirectRow, DependenceRow, RowFrom}
 use Rattle.graph.proofs.Counting.{low, clash}
 use Rattle.graph.proofs.Catalogue.{catalogued-more, last-run, last-step, front-step}
@@ -227,12 +227,15 @@ module _ (pairs t u dep dep′ linked m : List ℕ) (q r : ℕ) (x : Step) (hq :
 
 -- ---- no step yet
 
-pub none-read : (pairs : List Pair) (runs : List (List Step)) (m n : ℕ) → StepsRead pairs runs [] (replicate m 0) (replicate n 0)
-none-read pairs runs m n = record {
-  so-far = record { sound = λ x y hx hy e. absurd (clash (zeros-bit n y x) e); complete = λ x y hx hy d. absurd (low y (dep-inside (conflict pairs runs) d)) };
-  to-come = λ x y hx l hy. zeros-bit n y x;
+pub blank-zeros : (n : ℕ) → Blank (replicate n 0)
+blank-zeros n = record { none = λ x y hx hy. zeros-bit n y x }
+
+pub none-read : (pairs : List Pair) (runs : List (List Step)) (t dep : List ℕ) → Blank t → Blank dep → StepsRead pairs runs [] t dep
+none-read pairs runs t dep b d = record {
+  so-far = record { sound = λ x y hx hy e. absurd (clash (d .none x y hx hy) e); complete = λ x y hx hy k. absurd (low y (dep-inside (conflict pairs runs) k)) };
+  to-come = λ x y hx l hy. d .none x y hx hy;
   catalogued = record {
-    marks = record { sound = λ p y hp hy e. absurd (clash (zeros-bit m y p) e); complete = λ p y hp hy a. absurd (low p (a .inside)) };
+    marks = record { sound = λ p y hp hy e. absurd (clash (b .none p y hp hy) e); complete = λ p y hp hy a. absurd (low p (a .inside)) };
     kinds = λ p i. absurd (low p i);
   };
 }

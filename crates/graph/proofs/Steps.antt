@@ -8,7 +8,7 @@ use mathlib.Core.Logic.{_⊎_, inl, inr}
 use mathlib.Core.List.{List, [], _∷_, _++_}
 use mir.Val.{Fits}
 use mir.Syntax.{w8}
-use lib.ListN.{length, getD, take, set, replicate}
+use lib.ListN.{length, getD, take, set}
 use lib.Seq.{getD-set-same, getD-set-other, take-take, length-take-le}
 use Rattle.theory.specs.Lists.{sum}
 use Rattle.book.specs.Format.{position-limit, run-limit, step-limit}
@@ -17,7 +17,7 @@ use Rattle.book.specs.declared.Step.{Step as StepValue}
 use Rattle.theory.specs.History.{count, run, ordinal}
 use Rattle.theory.proofs.Lists.{count-take-lt, count-take-ne, count-take-le, take-last, sum-take, sum-take-le}
 use Rattle.theory.specs.Deck.{Step, step-of}
-use Rattle.graph.specs.Dependence.{StepsRead, StepRead}
+use Rattle.graph.specs.Dependence.{Blank, StepsRead, StepRead}
 use Rattle.graph.specs.inner.Tables.{Small, HistoryOf, Starts, StepsRoom, StepsOf, step-in, StepAt}
 use Rattle.graph.specs.inner.Catalogue.{HistoryRead}
 use Rattle.graph.proofs.Counting.{low, below-next, history-length, history-run}
@@ -59,14 +59,14 @@ pub record ReadUpTo (pairs h starts steps next catalogue dep : List ℕ) (n q : 
   pub passed : Passed h starts next q
   pub read : (runs : List (List Step)) → StepsOf runs h starts steps → StepsRead (pairs-of pairs) runs (take q h) catalogue dep
 
-pub read-none : (pairs h starts steps : List ℕ) (n k l : ℕ) → ReadUpTo pairs h starts steps starts (replicate k 0) (replicate l 0) n 0
-read-none pairs h starts steps n k l = record { within = omega arith; passed = record { at = λ r i. omega arith }; read = λ runs s. none-read (pairs-of pairs) runs k l }
+pub read-none : (pairs h starts steps catalogue dep : List ℕ) (n : ℕ) → Blank catalogue → Blank dep → ReadUpTo pairs h starts steps starts catalogue dep n 0
+read-none pairs h starts steps catalogue dep n b d = record { within = omega arith; passed = record { at = λ r i. omega arith }; read = λ runs s. none-read (pairs-of pairs) runs catalogue dep b d }
 
 pub read-all : (pairs history starts steps next catalogue dep : List ℕ) (n q : ℕ) → ReadUpTo pairs (take n history) starts steps next catalogue dep n q → n ≤ q
-    → HistoryRead pairs (take n history) starts steps dep
+    → HistoryRead pairs (take n history) starts steps catalogue dep
 read-all pairs history starts steps next catalogue dep n q w l =
     let e : q ≡ n = omega (arith, w .within) in
-    record { rows = λ runs s. rw (e, take-take n n history (omega arith)) at (w .read runs s) .so-far }
+    record { read = λ runs s. rw (e, take-take n n history (omega arith)) at (w .read runs s) }
 
 next-taken : (l : List ℕ) (q : ℕ) → q < length l → take (q + 1) l ≡ take q l ++ getD l q 0 ∷ []
 next-taken l q i = let e : q + 1 - 1 ≡ q = omega arith in rw e at (take-last l (q + 1) (omega arith) (omega arith))

@@ -44,6 +44,10 @@ pub record Catalogued (runs : List (List Step)) (h catalogue : List ℕ) : Type 
 
 -- ---- the steps of a history, one by one
 
+-- t marks nothing: the tables before the first step
+pub record Blank (t : List ℕ) : Type 0 where
+  pub none : (x y : ℕ) → x < row-bits → y < rows → bit-at t y x ≡ 0
+
 -- the tables after the steps of h were read
 pub record StepsRead (pairs : List Pair) (runs : List (List Step)) (h catalogue dep : List ℕ) : Type 0 where
   -- the rows so far mark exactly the earlier places each step depends on

@@ -17,10 +17,10 @@ ghost use Rattle.book.specs.Book.{code-limit, as-step, pairs-of, Valid, content
 ghost use Rattle.book.specs.Meaning.{conflict-of, unit-of};
 ghost use Rattle.graph.specs.Marks.{Marks};
 ghost use Rattle.graph.specs.Units.{units-size, UnchangedFrom, UnitTables};
-ghost use Rattle.graph.specs.Dependence.{StepRead};
+ghost use Rattle.graph.specs.Dependence.{Blank, StepsRead, StepRead};
 ghost use Rattle.graph.specs.inner.Catalogue.{digit-parts, parts, PartRow, Entered, Finds, Paired, KindAdded, PairedAt, Linked, RowFrom, HistoryRead};
 ghost use Rattle.graph.specs.inner.Tables.{places-size, Small, HistoryOf, Declared, NumberAt, StepAt, Starts, StepsRoom, Numbering, Counts, EachBy, RowRoom, RowSet, by-flag, copied-row};
-ghost use Rattle.graph.specs.inner.Arcs.{ArcOf, ArcOfPlaces, InRun, TablesOf, GainedBy, ArcRows, ArcInput, Rowed};
+ghost use Rattle.graph.specs.inner.Arcs.{ArcOf, ArcOfPlaces, RunRows, TablesOf, GainedBy, ArcRows, ArcInput, Rowed};
 ghost use Rattle.bits.specs.Table.{bit-at, intersection};
 ghost use Rattle.bits.specs.Last.{LastAt};
 
@@ -228,20 +228,19 @@ pub fn read_step(
     enter(catalogue, q, r, x);
 }
 
-// Reads the first n steps of the history, one by one. `next` has the next step of each run.
-fn read_steps<'a>(
-    history: &'a [u8; Book::STEPS],
+// Reads the first n steps of a history, one by one, into tables that mark nothing yet. `next` has the next step of each run.
+fn read_steps(
+    history: &[u8; Book::STEPS],
     n: usize,
-    steps: &'a [u32; Book::STEPS],
-    pairs: &'a [u8; Book::PAIRS_SIZE],
+    steps: &[u32; Book::STEPS],
+    pairs: &[u8; Book::PAIRS_SIZE],
     next: &mut [u8; Book::RUNS],
+    catalogue: &mut Table,
     dep: &mut Table,
 )
-    requires { ⌜ HistoryOf (now history) n × StepsRoom (take n (now history)) (now next) × Small code-limit (now steps) ⌝ }
-    ensures { λ _. ⌜ HistoryRead (now (pairs .entry)) (take n (now (history .entry))) (now (next .entry)) (now (steps .entry)) (now (dep .exit)) ⌝ }
+    requires { ⌜ HistoryOf (now history) n × StepsRoom (take n (now history)) (now next) × Small code-limit (now steps) × Blank (now catalogue) × Blank (now dep) ⌝ }
+    ensures { λ _. ⌜ HistoryRead (now (pairs .entry)) (take n (now (history .entry))) (now (next .entry)) (now (steps .entry)) (now (catalogue .exit)) (now (dep .exit)) ⌝ }
 {
-    *dep = [0; bits::TABLE_WORDS];
-    let mut catalogue = [0; bits::TABLE_WORDS];
     let mut q = 0;
     while q < n {
         sized_by_run(*next);
@@ -249,9 +248,23 @@ fn read_steps<'a>(
         let i = next[r];
         let x = step_at(steps, book::wide(i));
         next[r] = i + 1;
-        read_step(pairs, q, r, x, &mut catalogue, dep);
+        read_step(pairs, q, r, x, catalogue, dep);
         q += 1;
     }
+}
+
+// Reads the book's history, step by step, into tables that mark nothing yet.
+pub fn read_history(b: Book, catalogue: &mut Table, dep: &mut Table)
+    requires { ⌜ Valid b × Blank (now catalogue) × Blank (now dep) ⌝ }
+    ensures { λ _. ⌜ StepsRead (contents-of b .pairs) (contents-of b .runs) (contents-of b .history) (now (catalogue .exit)) (now (dep .exit)) ⌝ }
+{
+    let history = b.history;
+    let lengths = b.lengths;
+    let steps = b.steps;
+    let pairs = b.pairs;
+    let mut next = [0u8; Book::RUNS];
+    starts(&lengths, &mut next);
+    read_steps(&history, b.done, &steps, &pairs, &mut next, catalogue, dep);
 }
 
 // The dependence table of the book's history: bit p of row q where q depends on p.
@@ -259,9 +272,9 @@ pub fn dependences(b: Book, dep: &mut Table)
     requires { ⌜ Valid b ⌝ }
     ensures { λ r. ⌜ Marks (Depends (conflict-of (contents-of b)) (contents-of b .history)) (now (dep .exit)) ⌝ }
 {
-    let mut next = [0u8; Book::RUNS];
-    starts(&b.lengths, &mut next);
-    read_steps(&b.history, b.done, &b.steps, &b.pairs, &mut next, dep);
+    *dep = [0; bits::TABLE_WORDS];
+    let mut catalogue = [0; bits::TABLE_WORDS];
+    read_history(b, &mut catalogue, dep);
 }
 
 // The ordinal of each place, and the place of each step.
@@ -390,20 +403,6 @@ pub fn units(b: Book, firsts: &mut Units, lasts: &mut Units)
     unit_lasts(&history, n, &ordinals, &places, &counts, &b.cuts, lasts);
 }
 
-// The places of each run: bit p of row r where p is a place of r.
-fn run_masks(history: &[u8; Book::STEPS], n: usize, masks: &mut Table)
-    requires { ⌜ HistoryOf (now history) n ⌝ }
-    ensures { λ r. ⌜ Marks (InRun (take n (now (history .entry))) n) (now (masks .exit)) ⌝ }
-{
-    *masks = [0; bits::TABLE_WORDS];
-    let mut p = 0;
-    while p < n {
-        let r = run_of(history, p);
-        bits::mark(masks, r, p);
-        p += 1;
-    }
-}
-
 // What a table of units has of place p and run o.
 pub fn place_in(t: &Units, n: usize, p: usize, o: usize) -> usize
     requires { ⌜ Rowed n (now t) × (p < n) × (n ≤ step-limit) × (o < run-limit) ⌝ }
@@ -486,25 +485,24 @@ fn arcs_from(
     }
 }
 
-// The arc rows, run after run.
+// The arc rows, run after run. The catalogue has the places of each run.
 fn arc_rows(
     history: &[u8; Book::STEPS],
     n: usize,
     declared: usize,
+    catalogue: &Table,
     dep: &Table,
     firsts: &Units,
     lasts: &Units,
     arc: &mut Table,
 )
-    requires { ⌜ HistoryOf (now history) n × Declared (now history) n declared × TablesOf (take n (now history)) (now dep) (now firsts) (now lasts) ⌝ }
+    requires { ⌜ HistoryOf (now history) n × Declared (now history) n declared × RunRows (take n (now history)) n (now catalogue) × TablesOf (take n (now history)) (now dep) (now firsts) (now lasts) ⌝ }
     ensures { λ _. ⌜ ArcRows (take n (now (history .entry))) (now (dep .entry)) (now (firsts .entry)) (now (lasts .entry)) (now (arc .exit)) ⌝ }
 {
-    let mut masks = [0; bits::TABLE_WORDS];
-    run_masks(history, n, &mut masks);
     *arc = [0; bits::TABLE_WORDS];
     let mut r = 0;
     while r < declared {
-        let mask = bits::row_of(&masks, r);
+        let mask = bits::row_of(catalogue, RUN_PART * BASE + r);
         arcs_from(history, n, dep, firsts, lasts, &mask, r, arc);
         r += 1;
     }
@@ -515,12 +513,22 @@ pub fn arcs(b: Book, arc: &mut Table)
     requires { ⌜ Valid b ⌝ }
     ensures { λ r. ⌜ Marks (Arc (conflict-of (contents-of b)) (unit-of (contents-of b)) (contents-of b .history)) (now (arc .exit)) ⌝ }
 {
+    let mut catalogue = [0; bits::TABLE_WORDS];
     let mut dep = [0; bits::TABLE_WORDS];
-    dependences(b, &mut dep);
+    read_history(b, &mut catalogue, &mut dep);
     let mut firsts = [0u8; UNITS_SIZE];
     let mut lasts = [0u8; UNITS_SIZE];
     units(b, &mut firsts, &mut lasts);
     let history = b.history;
     let n = b.done;
-    arc_rows(&history, n, b.declared, &dep, &firsts, &lasts, arc);
+    arc_rows(
+        &history,
+        n,
+        b.declared,
+        &catalogue,
+        &dep,
+        &firsts,
+        &lasts,
+        arc,
+    );
 }

@@ -8,16 +8,19 @@ use Rattle.graph.proofs.arc_rows.Statement.{statement}
 use Rattle.graph.proofs.arc_rows.Tie as tie
 
 abbrev Inv-loop : tie.InvT-loop
-Inv-loop history n declared dep firsts lasts arc₀ masks r₀ arc r = (r ≤ declared) × GainedBy ArcOfRuns (take n history) dep firsts lasts n r arc₀ arc
+Inv-loop history n declared catalogue dep firsts lasts arc₀ r₀ arc r = (r ≤ declared) × GainedBy ArcOfRuns (take n history) dep firsts lasts n r arc₀ arc
 
 abbrev μ-loop : tie.MeasureT-loop
-μ-loop history n declared dep firsts lasts arc₀ masks r₀ arc r = declared - r
-
-run-masks-requires : tie.Need-run-masks-requires Inv-loop μ-loop
-run-masks-requires c κs = search needs
+μ-loop history n declared catalogue dep firsts lasts arc₀ r₀ arc r = declared - r
 
 loop-holds : tie.Need-loop-holds Inv-loop μ-loop
 loop-holds c = (search needs, search runs-none)
+
+mul-row-of : tie.Need-mul-row-of Inv-loop μ-loop
+mul-row-of c = search needs
+
+add-row-of : tie.Need-add-row-of Inv-loop μ-loop
+add-row-of c = search needs
 
 row-of-requires : tie.Need-row-of-requires Inv-loop μ-loop
 row-of-requires c κs = search needs
@@ -43,8 +46,9 @@ arc-rows-spec =
     (tie.spec
     Inv-loop
     μ-loop
-    run-masks-requires
     loop-holds
+    mul-row-of
+    add-row-of
     row-of-requires
     arcs-from-requires
     add-r

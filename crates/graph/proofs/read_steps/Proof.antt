@@ -7,10 +7,10 @@ use Rattle.graph.proofs.read_steps.Statement.{statement}
 use Rattle.graph.proofs.read_steps.Tie as tie
 
 abbrev Inv-loop : tie.InvT-loop
-Inv-loop history n steps pairs next₀ dep₀ catalogue₀ q₀ next dep catalogue q = ReadUpTo pairs (take n history) next₀ steps next catalogue dep n q
+Inv-loop history n steps pairs next₀ catalogue₀ dep₀ q₀ next catalogue dep q = ReadUpTo pairs (take n history) next₀ steps next catalogue dep n q
 
 abbrev μ-loop : tie.MeasureT-loop
-μ-loop history n steps pairs next₀ dep₀ catalogue₀ q₀ next dep catalogue q = n - q
+μ-loop history n steps pairs next₀ catalogue₀ dep₀ q₀ next catalogue dep q = n - q
 
 loop-holds : tie.Need-loop-holds Inv-loop μ-loop
 loop-holds c = search read-none

@@ -12,7 +12,9 @@ use Rattle.theory.specs.Graph.{FirstOf, LastOf, ArcI, ArcD, Arc}
 use Rattle.book.specs.Format.{run-limit}
 use Rattle.graph.specs.Marks.{Marks}
 use Rattle.graph.specs.Units.{Firsts, Lasts}
+use Rattle.graph.specs.Dependence.{base}
 use Rattle.graph.specs.inner.Tables.{HistoryOf}
+use Rattle.graph.specs.inner.Catalogue.{run-part}
 
 -- u is t with the bits that H tells
 pub record Gained (H : ℕ → ℕ → Type 0) (t u : List ℕ) : Type 0 where
@@ -45,6 +47,11 @@ ArcOfRuns conflict unit h n m = Below (λ r. Below (ArcOf conflict unit h r) n) 
 pub record InRun (h : List ℕ) (m p r : ℕ) : Type 0 where
   pub below : p < m
   pub runs : run h p ≡ r
+
+-- the rows of the run part are the places of each run
+pub record RunRows (h : List ℕ) (n : ℕ) (catalogue : List ℕ) : Type 0 where
+  pub sound : (p r : ℕ) → p < row-bits → r < run-limit → bit-at catalogue (run-part * base + r) p ≡ 1 → InRun h n p r
+  pub complete : (p r : ℕ) → p < row-bits → r < run-limit → InRun h n p r → bit-at catalogue (run-part * base + r) p ≡ 1
 
 -- the columns of the mask are the places of run r
 pub record Mask (h : List ℕ) (n r : ℕ) (mask : List ℕ) : Type 0 where

@@ -8,12 +8,12 @@ use lib.ListN.{length}
 use lib.Dec.{T}
 use Rattle.bits.specs.Table.{row-bits, rows, bit-at}
 use Rattle.theory.specs.History.{run}
-use Rattle.theory.specs.Deck.{Step, listed, steps-conflict, conflict}
+use Rattle.theory.specs.Deck.{Step, listed, steps-conflict}
 use Rattle.theory.specs.Relative.{DirectlyDepends, Depends}
 use Rattle.book.specs.Format.{kind-limit}
 use Rattle.book.specs.Book.{pairs-of}
 use Rattle.graph.specs.Marks.{Marks}
-use Rattle.graph.specs.Dependence.{base, part, step-at, Catalogued}
+use Rattle.graph.specs.Dependence.{base, part, step-at, Catalogued, StepsRead}
 use Rattle.graph.specs.inner.Tables.{StepsOf}
 
 -- how many parts a step has; the first of them are the digits of its position, then come its kind and its run
@@ -91,6 +91,6 @@ pub record RowFrom (dep linked m : List ℕ) : Type 0 where
 
 -- ---- the rows of a history
 
--- dep is the dependence table of h, for any runs whose steps these are
-pub record HistoryRead (pairs h starts steps dep : List ℕ) : Type 0 where
-  pub rows : (runs : List (List Step)) → StepsOf runs h starts steps → Marks (Depends (conflict (pairs-of pairs) runs) h) dep
+-- the tables are those of h, for any runs whose steps these are
+pub record HistoryRead (pairs h starts steps catalogue dep : List ℕ) : Type 0 where
+  pub read : (runs : List (List Step)) → StepsOf runs h starts steps → StepsRead (pairs-of pairs) runs h catalogue dep
