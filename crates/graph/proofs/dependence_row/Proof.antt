@@ -20,10 +20,10 @@ enum-known-p : tie.Need-enum-known-p Inv-loop μ-loop
 enum-known-p c = search needs
 
 add-row-requires : tie.Need-add-row-requires Inv-loop μ-loop
-add-row-requires c κs = search row-place
+add-row-requires c κs = search (needs, row-place)
 
 add-requires : tie.Need-add-requires Inv-loop μ-loop
-add-requires c κs = search row-place
+add-requires c κs = search (needs, row-place)
 
 loop-less : tie.Need-loop-less Inv-loop μ-loop
 loop-less c = search row-less

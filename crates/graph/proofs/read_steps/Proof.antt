@@ -31,7 +31,7 @@ step-at-requires : tie.Need-step-at-requires Inv-loop μ-loop
 step-at-requires c κs = (search read-index, search needs)
 
 add-next : tie.Need-add-next Inv-loop μ-loop
-add-next c = search read-fits
+add-next c = search (needs, read-fits)
 
 element-write-next : tie.Need-element-write-next Inv-loop μ-loop
 element-write-next c = search needs
