@@ -23,9 +23,9 @@ static uint8_t *put_pairs(source *s, const shape *f, uint8_t *o) {
     return o;
 }
 
-static uint8_t *put_steps(source *s, unsigned steps, unsigned kinds, unsigned positions, uint8_t *o) {
+static uint8_t *put_steps(source *s, unsigned steps, unsigned kinds, unsigned positions, unsigned factor, uint8_t *o) {
     while (steps-- > 0) {
-        unsigned position = below(s, positions);
+        unsigned position = below(s, positions) * factor;
         *o++ = 0x53;
         *o++ = (uint8_t)below(s, kinds);
         *o++ = (uint8_t)(position >> 8);
@@ -44,7 +44,7 @@ static uint8_t *put_runs(source *s, const shape *f, unsigned *length, uint8_t *o
         if (total + length[r] > DECK_STEPS)
             length[r] = DECK_STEPS - total;
         total += length[r];
-        o = put_steps(s, length[r], f->kinds, f->positions, o);
+        o = put_steps(s, length[r], f->kinds, f->positions, f->factor ? f->factor : 1, o);
     }
     return o;
 }
@@ -107,7 +107,7 @@ size_t make_long_book(source *s, uint8_t *out) {
             steps = over == STEP ? 1 : DECK_RUN_STEPS + 1;
         *o++ = 0x52;
         *o++ = (uint8_t)r;
-        o = put_steps(s, steps, DECK_KINDS, UINT16_MAX + 1, o);
+        o = put_steps(s, steps, DECK_KINDS, UINT16_MAX + 1, 1, o);
     }
     *o++ = 0x45;
     return (size_t)(o - out);
@@ -121,6 +121,7 @@ shape draw_shape(source *s) {
     f.kinds = 1 + below(s, large ? DECK_KINDS : 4);
     f.pairs = 20 + below(s, 81);
     f.positions = below(s, 8) == 0 ? UINT16_MAX + 1 : 1 + below(s, large ? 100 : 5);
+    f.factor = 1u << 4 * below(s, 4); /* so that positions differ in each of their digits to base 16 */
     f.cuts = below(s, 4) == 0 ? 0 : below(s, 101);
     f.burst = 1 + below(s, below(s, 2) ? 2 : f.steps);
     f.undone = 25;

@@ -21,6 +21,7 @@ typedef struct {
     unsigned kinds; /* kinds below this */
     unsigned pairs; /* percent of the pairs of kinds that conflict */
     unsigned positions; /* positions below this */
+    unsigned factor; /* each times this, modulo 65536; 0 stands for 1 */
     unsigned cuts; /* percent of the cuts */
     unsigned burst; /* done steps of one run in a row, at most */
     unsigned undone; /* percent of the histories that stop early */
