@@ -69,18 +69,6 @@ pub fn add(m: &mut Row, col: usize)
     m[at] = m[at] | (1 << (col % 64));
 }
 
-// Makes the row dst the union of the rows dst and src.
-pub fn join(t: &mut Table, dst: usize, src: usize)
-    requires { ⌜ (dst < rows) × (src < rows) ⌝ }
-    ensures { λ r. ⌜ Replaced (now (t .entry)) (now (t .exit)) dst (union (bit-at (now (t .entry)) dst) (bit-at (now (t .entry)) src)) ⌝ }
-{
-    sized(*t);
-    for k in 0..ROW_WORDS {
-        let at = ROW_WORDS * dst + k;
-        t[at] = t[at] | t[ROW_WORDS * src + k];
-    }
-}
-
 // Adds to the row dst of t those columns of the row src of u that are in the mask.
 pub fn join_within(t: &mut Table, dst: usize, u: &Table, src: usize, mask: &Row)
     requires { ⌜ (dst < rows) × (src < rows) ⌝ }

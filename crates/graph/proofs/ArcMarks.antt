@@ -2,7 +2,7 @@
 use Prim.Native.Nat.{ℕ, _+_, _*_, _≤_, _<_}
 use native.Mathlib.Decide.{ℕ-discrete, decLt}
 use native.Mathlib.Omega.{arith}
-use mathlib.Core.Path.{_≡_, refl, sym, ap, _∙_, subst}
+use mathlib.Core.Path.{_≡_, refl, sym, _∙_, subst}
 use mathlib.Core.Logic.{_⊎_, inl, inr, _≢_}
 use mathlib.Core.List.{List}
 use lib.ListN.{length, getD, take, replicate}
@@ -17,10 +17,9 @@ use Rattle.theory.specs.Relative.{Depends}
 use Rattle.theory.specs.Graph.{FirstOf, LastOf, ArcD, Arc, arc-I, arc-D, arc-F, arc-B}
 use Rattle.theory.proofs.Steps.{dep-lt, dep-inside}
 use Rattle.book.specs.Format.{run-limit, step-limit}
-use Rattle.graph.specs.Marks.{Marks}
 use Rattle.graph.specs.Units.{EachPlace}
-use Rattle.graph.specs.Dependence.{base}
-use Rattle.graph.specs.inner.Catalogue.{run-part}
+use Rattle.graph.specs.Catalogue.{base}
+use Rattle.graph.specs.inner.Reading.{run-part}
 use Rattle.graph.specs.inner.Tables.{HistoryOf, Declared, NumberAt}
 use Rattle.graph.specs.inner.Arcs.{Gained, ArcOf, by-I, by-D, by-F, by-B, Below, ArcOfPlaces, ArcOfRuns, RunRows, TablesOf, GainedBy, ArcRows, ArcInput, Rowed}
 use Rattle.graph.proofs.Counting.{low, clash, below-next, history-length, history-run, history-small}

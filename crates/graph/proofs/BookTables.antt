@@ -4,30 +4,30 @@ use native.Mathlib.Nat.{not-suc-le-zero, zero-add}
 use native.Mathlib.Decide.{ℕ-discrete, decLe}
 use native.Mathlib.Omega.{arith}
 use mathlib.Core.Path.{_≡_, refl, sym, ap, _∙_}
-use mathlib.Core.Logic.{_⊎_, inl, inr, _≢_}
+use mathlib.Core.Logic.{inl, inr, _≢_}
 use mathlib.Core.Bool.{Bool, true, false, _&&_, not}
 use mathlib.Core.List.{List, [], _∷_, map}
 use lib.ListN.{length, getD, take, drop, List·getD-map}
 use lib.Seq.{getD-take, getD-drop, take-take}
-use lib.Dec.{T, eqb, leb}
+use lib.Dec.{eqb, leb}
 use borrow.Author.Tests.{leb-true, le-leb, lt-leb, eq-eqb, ne-eqb}
 use Rattle.book.specs.declared.Book.{Book}
 use Rattle.theory.specs.Lists.{sum}
 use Rattle.book.specs.Format.{run-limit, run-step-limit, step-limit}
-use Rattle.book.specs.Book.{run-cuts, code-limit, flagged, cut-of, pairs-of, step-coded, runs-of-lengths, contents-of, Valid}
+use Rattle.book.specs.Book.{run-cuts, code-limit, flagged, cut-of, step-coded, runs-of-lengths, contents-of, Valid}
 use Rattle.book.specs.Meaning.{conflict-of, unit-of}
 use Rattle.book.proofs.Groups.{count-flagged}
 use Rattle.book.proofs.Books.{done-within}
 use Rattle.theory.specs.History.{suc-if, count, run, ordinal}
-use Rattle.theory.specs.Relative.{Conflicting, Depends}
+use Rattle.theory.specs.Relative.{Depends}
 use Rattle.theory.specs.Graph.{FirstOf, LastOf, Arc}
-use Rattle.theory.specs.Deck.{Step, Cut, step-of, steps-conflict, conflict, unit}
+use Rattle.theory.specs.Deck.{Step, Cut, step-of, conflict, unit}
 use Rattle.theory.proofs.Places.{Compared, eq-cases, ordinal-lt}
 use Rattle.graph.specs.Marks.{Marks}
 use Rattle.graph.specs.Units.{UnchangedFrom, UnitTables}
 use Rattle.graph.specs.inner.Tables.{Small, HistoryOf, Declared, Starts, StepsRoom, step-in, Counts, CutsOf, EachBy}
 use Rattle.graph.specs.Dependence.{StepsRead}
-use Rattle.graph.specs.inner.Catalogue.{HistoryRead}
+use Rattle.graph.specs.inner.Reading.{HistoryRead}
 use Rattle.graph.specs.inner.Arcs.{RunRows, TablesOf, ArcRows}
 use Rattle.graph.proofs.Counting.{history-length, history-run, history-small}
 use Rattle.graph.proofs.Catalogue.{run-rows}

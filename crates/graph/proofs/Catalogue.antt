@@ -1,26 +1,25 @@
 -- The catalogue of the places read: which places it finds, and what one step more makes of it.
-use Prim.Native.Nat.{ℕ, zero, suc, _+_, _*_, _/_, _%_, _≤_, _<_, min, max}
+use Prim.Native.Nat.{ℕ, zero, suc, _+_, _*_, _/_, _%_, _≤_, _<_, max}
 use native.Mathlib.Decide.{ℕ-discrete}
 use native.Mathlib.Omega.{arith}
 use mathlib.Core.Path.{_≡_, refl, sym, ap, _∙_}
 use mathlib.Core.Logic.{_⊎_, inl, inr, _≢_}
 use mathlib.Core.Bool.{Bool, true, false, _&&_}
 use mathlib.Core.List.{List, [], _∷_, _++_}
-use lib.ListN.{length, getD, take, replicate}
+use lib.ListN.{length, replicate}
 use lib.Seq.{getD-append-seam, take-append-seam}
 use lib.Dec.{T, eqb}
 use borrow.Author.Tests.{eqb-true, eq-eqb}
 use Rattle.bits.specs.Table.{row-bits, rows, bit-at, union, intersection, Marked, Replaced}
 use Rattle.bits.proofs.Store.{bit-at-lt, zeros-bit}
-use Rattle.theory.specs.History.{count, run, ordinal, Same}
+use Rattle.theory.specs.History.{count, run, ordinal}
 use Rattle.theory.specs.Deck.{Step, step-of, listed, same-position, steps-conflict}
 use Rattle.theory.proofs.Lists.{length-snoc}
 use Rattle.theory.proofs.Within.{front}
 use Rattle.book.specs.Format.{kind-limit}
 use Rattle.book.specs.Book.{pairs-of}
-use Rattle.graph.specs.Marks.{Marks}
-use Rattle.graph.specs.Dependence.{base, part, step-at, PartIs, Catalogued}
-use Rattle.graph.specs.inner.Catalogue.{digit-parts, kind-part, run-part, parts, PartRow, Entered, Has, Finds, Paired, KindAdded, PairedAt, Linked}
+use Rattle.graph.specs.Catalogue.{base, part, step-at, PartIs, Catalogued}
+use Rattle.graph.specs.inner.Reading.{digit-parts, kind-part, run-part, parts, PartRow, Entered, Has, Finds, Paired, KindAdded, PairedAt, Linked}
 use Rattle.graph.specs.inner.Arcs.{RunRows}
 use Rattle.graph.proofs.Counting.{low, clash, below-next}
 

@@ -2,10 +2,9 @@
 -- it depends on. A place that the row has already adds nothing, since with a place the row has all that the place depends on.
 use Prim.Native.Nat.{ℕ, suc, _+_, _-_, _≤_, _<_, max}
 use native.Mathlib.Decide.{ℕ-discrete, decLt}
-use native.Mathlib.Numerals.{add-one}
 use native.Mathlib.Omega.{arith}
-use mathlib.Core.Path.{_≡_, refl, sym, ap, _∙_}
-use mathlib.Core.Logic.{_⊎_, inl, inr, _≢_}
+use mathlib.Core.Path.{_≡_, sym, ap, _∙_}
+use mathlib.Core.Logic.{_⊎_, inl, inr}
 use mathlib.Core.Bool.{Bool, true, false, _&&_, not}
 use mathlib.Core.List.{List, [], _∷_, _++_}
 use lib.ListN.{length, replicate}
@@ -26,8 +25,9 @@ use Rattle.theory.proofs.Within.{front, front-depends, depends-front}
 use Rattle.book.specs.Format.{kind-limit}
 use Rattle.book.specs.Book.{pairs-of}
 use Rattle.graph.specs.Marks.{Marks}
-use Rattle.graph.specs.Dependence.{step-at, Blank, StepsRead, StepRead}
-use Rattle.graph.specs.inner.Catalogue.{parts, Entered, Finds, Linked, DependsSoFar, DirectRow, DependenceRow, RowFrom}
+use Rattle.graph.specs.Catalogue.{step-at}
+use Rattle.graph.specs.Dependence.{Blank, StepsRead, StepRead}
+use Rattle.graph.specs.inner.Reading.{parts, Entered, Finds, Linked, DependsSoFar, DirectRow, DependenceRow, RowFrom}
 use Rattle.graph.proofs.Counting.{low, clash}
 use Rattle.graph.proofs.Catalogue.{catalogued-more, last-run, last-step, front-step}
 

@@ -9,11 +9,10 @@ use lib.ListN.{getD}
 use lib.Dec.{eqb}
 use borrow.Author.Tests.{eq-eqb, ne-eqb}
 use Rattle.book.specs.Format.{kind-limit}
-use Rattle.book.specs.Book.{flagged, pair-of, pairs-of, as-step}
-use Rattle.book.specs.declared.Step.{Step as StepValue}
+use Rattle.book.specs.Book.{flagged, pair-of, pairs-of}
 use Rattle.book.proofs.Groups.{count-flagged}
 use Rattle.theory.specs.History.{suc-if, count}
-use Rattle.theory.specs.Deck.{listed, same-position, steps-conflict}
+use Rattle.theory.specs.Deck.{listed}
 use Rattle.theory.proofs.Places.{Compared, eq-cases}
 
 -- ---- the test of a listed pair

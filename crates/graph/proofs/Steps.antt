@@ -19,7 +19,7 @@ use Rattle.theory.proofs.Lists.{count-take-lt, count-take-ne, count-take-le, ta
 use Rattle.theory.specs.Deck.{Step, step-of}
 use Rattle.graph.specs.Dependence.{Blank, StepsRead, StepRead}
 use Rattle.graph.specs.inner.Tables.{Small, HistoryOf, Starts, StepsRoom, StepsOf, step-in, StepAt}
-use Rattle.graph.specs.inner.Catalogue.{HistoryRead}
+use Rattle.graph.specs.inner.Reading.{HistoryRead}
 use Rattle.graph.proofs.Counting.{low, below-next, history-length, history-run}
 use Rattle.graph.proofs.DependenceRows.{none-read}
 

@@ -18,7 +18,7 @@ ghost use Rattle.book.specs.Meaning.{conflict-of, unit-of};
 ghost use Rattle.graph.specs.Marks.{Marks};
 ghost use Rattle.graph.specs.Units.{units-size, UnchangedFrom, UnitTables};
 ghost use Rattle.graph.specs.Dependence.{Blank, StepsRead, StepRead};
-ghost use Rattle.graph.specs.inner.Catalogue.{digit-parts, parts, PartRow, Entered, Finds, Paired, KindAdded, PairedAt, Linked, RowFrom, HistoryRead};
+ghost use Rattle.graph.specs.inner.Reading.{digit-parts, parts, PartRow, Entered, Finds, Paired, KindAdded, PairedAt, Linked, RowFrom, HistoryRead};
 ghost use Rattle.graph.specs.inner.Tables.{places-size, Small, HistoryOf, Declared, NumberAt, StepAt, Starts, StepsRoom, Numbering, Counts, EachBy, RowRoom, RowSet, by-flag, copied-row};
 ghost use Rattle.graph.specs.inner.Arcs.{ArcOf, ArcOfPlaces, RunRows, TablesOf, GainedBy, ArcRows, ArcInput, Rowed};
 ghost use Rattle.bits.specs.Table.{bit-at, intersection};

@@ -1,7 +1,7 @@
 -- Each turn adds the places of one more kind, if it is paired.
 use Prim.Native.Nat.{_≤_, _-_}
 use Rattle.book.specs.Format.{kind-limit}
-use Rattle.graph.specs.inner.Catalogue.{Finds, Paired}
+use Rattle.graph.specs.inner.Reading.{Finds, Paired}
 use Rattle.graph.proofs.Catalogue.{paired-none, paired-more, paired-all}
 use borrow.Author.Needs.{needs}
 use Rattle.graph.proofs.paired.Statement.{statement}

@@ -12,9 +12,9 @@ use Rattle.theory.specs.Graph.{FirstOf, LastOf, ArcI, ArcD, Arc}
 use Rattle.book.specs.Format.{run-limit}
 use Rattle.graph.specs.Marks.{Marks}
 use Rattle.graph.specs.Units.{Firsts, Lasts}
-use Rattle.graph.specs.Dependence.{base}
+use Rattle.graph.specs.Catalogue.{base}
 use Rattle.graph.specs.inner.Tables.{HistoryOf}
-use Rattle.graph.specs.inner.Catalogue.{run-part}
+use Rattle.graph.specs.inner.Reading.{run-part}
 
 -- u is t with the bits that H tells
 pub record Gained (H : ℕ → ℕ → Type 0) (t u : List ℕ) : Type 0 where

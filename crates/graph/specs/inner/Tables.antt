@@ -1,19 +1,16 @@
 -- What the tables inside `graph` hold.
 use Prim.Native.Nat.{ℕ, zero, suc, _+_, _*_, _≤_, _<_}
 use mathlib.Core.Path.{_≡_}
-use mathlib.Core.Logic.{_⊎_, _≢_}
-use mathlib.Core.Bool.{Bool, true, false}
+use mathlib.Core.Logic.{_≢_}
 use mathlib.Core.List.{List}
 use lib.ListN.{length, getD, take}
-use lib.Dec.{T}
 use Rattle.book.specs.Format.{kind-limit, run-limit, run-step-limit, step-limit}
-use Rattle.book.specs.Book.{cuts-size, run-cuts, code-limit, step-coded, as-step, pairs-of}
+use Rattle.book.specs.Book.{cuts-size, run-cuts, step-coded, as-step}
 use Rattle.book.specs.declared.Step.{Step as StepValue}
 use Rattle.theory.specs.Lists.{sum}
 use Rattle.theory.specs.History.{count, run, ordinal}
 use Rattle.theory.specs.Deck.{Step, step-of}
 use Rattle.theory.specs.inner.Places.{place-of}
-use Rattle.bits.specs.Table.{bit-at}
 use Rattle.graph.specs.Units.{EachPlace}
 
 -- the size of a table of a place for each step, by run and ordinal

@@ -13,7 +13,8 @@ use Rattle.theory.specs.Relative.{DirectlyDepends, Depends}
 use Rattle.book.specs.Format.{kind-limit}
 use Rattle.book.specs.Book.{pairs-of}
 use Rattle.graph.specs.Marks.{Marks}
-use Rattle.graph.specs.Dependence.{base, part, step-at, Catalogued, StepsRead}
+use Rattle.graph.specs.Catalogue.{base, part, step-at, Catalogued}
+use Rattle.graph.specs.Dependence.{StepsRead}
 use Rattle.graph.specs.inner.Tables.{StepsOf}
 
 -- how many parts a step has; the first of them are the digits of its position, then come its kind and its run

@@ -1,0 +1,38 @@
+-- The catalogue of the places read: a table of bits in which the places stand by their position, kind and run, so that the steps that a step conflicts
+-- with are found by rows.
+use Prim.Native.Nat.{ℕ, zero, suc, _/_, _%_, _<_}
+use mathlib.Core.Path.{_≡_}
+use mathlib.Core.List.{List}
+use lib.ListN.{length}
+use Rattle.theory.specs.History.{run, ordinal}
+use Rattle.theory.specs.Deck.{Step, step-of}
+use Rattle.book.specs.Format.{kind-limit}
+use Rattle.graph.specs.Marks.{Marks}
+
+-- kinds, runs and the digits of a position are below this
+abbrev pub base : ℕ
+base = 16
+
+-- the parts of a step x of run r: its position's four digits, the lowest first, its kind and its run. There is no further part
+abbrev pub part : ℕ → Step → ℕ → ℕ
+part r x zero = x .position % base
+part r x (suc zero) = x .position / 16 % base
+part r x (suc (suc zero)) = x .position / 256 % base
+part r x (suc (suc (suc zero))) = x .position / 4096
+part r x (suc (suc (suc (suc zero)))) = x .kind
+part r x (suc (suc (suc (suc (suc zero))))) = r
+part r x (suc (suc (suc (suc (suc (suc k)))))) = base
+
+-- the step at place p of h
+abbrev pub step-at : List (List Step) → List ℕ → ℕ → Step
+step-at runs h p = step-of runs (run h p) (ordinal h p)
+
+-- row y of the catalogue has place p: row k * base + v has the places of h whose part k is v
+pub record PartIs (runs : List (List Step)) (h : List ℕ) (p y : ℕ) : Type 0 where
+  pub inside : p < length h
+  pub is : part (run h p) (step-at runs h p) (y / base) ≡ y % base
+
+-- the catalogue is that of h, whose kinds are in range
+pub record Catalogued (runs : List (List Step)) (h catalogue : List ℕ) : Type 0 where
+  pub marks : Marks (PartIs runs h) catalogue
+  pub kinds : (p : ℕ) → p < length h → step-at runs h p .kind < kind-limit
