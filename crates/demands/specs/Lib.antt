@@ -1,3 +1,4 @@
--- Results: the demands, and that the classes are nested, of what the functions of this crate return. inner is no part of the statement.
+-- Results: the demands, that the classes are nested, and the one pass over a history, of what the functions of this crate return. inner is no part of the
+-- statement.
 pub mod Results
 pub mod inner

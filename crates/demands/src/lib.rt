@@ -1,8 +1,11 @@
 // The demands as contracts: `demand_1`, `demand_2` and `demand_3` make the public calls and ensure the demand of what they return; `nested_classes`,
-// `nested_deck_classes` and `nested_text` ask for the classes of a book and ensure that they are nested. `claims` states the demands and the nested classes,
-// and proves them of whatever meets the calls' contracts.
+// `nested_deck_classes` and `nested_text` ask for the classes of a book and ensure that they are nested; `pass_further` reads one more step of a history and
+// ensures what the one pass over it promises. `claims` states the demands, the nested classes and the one pass, and proves them of whatever meets the calls'
+// contracts.
+use bits::Table;
 use book::Answer;
 use book::Book;
+use book::Step;
 use capi::Answered;
 use capi::Judged;
 use capi::OpenedGate;
@@ -11,10 +14,12 @@ use gate::Gate;
 use gate::Replayed;
 use judge::Judgement;
 use judge::Verdict;
-ghost use Rattle.book.specs.Book.{Valid, outcome-by};
+ghost use Prim.Native.Nat.{_<_};
+ghost use Rattle.book.specs.Format.{kind-limit, run-limit, step-limit};
+ghost use Rattle.book.specs.Book.{Valid, as-step, outcome-by};
 ghost use Rattle.gate.specs.Plain.{step as step-call, withdraw as withdraw-call};
 ghost use Rattle.capi.specs.Calls.{GateCall};
-ghost use Rattle.demands.specs.Results.{BookRefusals, JudgeRefusals, WriteRefusals, ReplayRefusals, TextRefusals, GateRefusals, Demand2Of, Demand3Of, NestedAnswers, NestedDeckAnswers, NestedText};
+ghost use Rattle.demands.specs.Results.{BookRefusals, JudgeRefusals, WriteRefusals, ReplayRefusals, TextRefusals, GateRefusals, Demand2Of, Demand3Of, NestedAnswers, NestedDeckAnswers, NestedText, PassFurther};
 ghost use Rattle.demands.specs.inner.Readings.{OutcomeAnswered};
 
 // What the calls that read a book and change nothing return.
@@ -262,4 +267,19 @@ pub fn nested_text(s: &[u8], text: &mut [u8; report::TEXT]) -> usize
     ensures { λ r. ⌜ NestedText (now (s .entry)) (now (text .entry)) (now (text .exit)) r ⌝ }
 {
     report::report(s, text)
+}
+
+// Reads one more step, x of run r, as place q.
+pub fn pass_further(
+    pairs: &[u8; Book::PAIRS_SIZE],
+    q: usize,
+    r: usize,
+    x: Step,
+    catalogue: &mut Table,
+    dep: &mut Table,
+)
+    requires { ⌜ (q < step-limit) × (r < run-limit) × (x .kind < kind-limit) ⌝ }
+    ensures { λ _. ⌜ PassFurther (now (pairs .entry)) (now (catalogue .entry)) (now (catalogue .exit)) (now (dep .entry)) (now (dep .exit)) q r (as-step x) ⌝ }
+{
+    graph::read_step(pairs, q, r, x, catalogue, dep);
 }
