@@ -20,8 +20,8 @@ typedef struct {
     unsigned fixed; /* each run has just so many */
     unsigned kinds; /* kinds below this */
     unsigned pairs; /* percent of the pairs of kinds that conflict */
-    unsigned positions; /* positions below this */
-    unsigned factor; /* each times this, modulo 65536; 0 stands for 1 */
+    unsigned positions; /* positions are numbers below this */
+    unsigned factor; /* times this, modulo 65536; 0 stands for 1 */
     unsigned cuts; /* percent of the cuts */
     unsigned burst; /* done steps of one run in a row, at most */
     unsigned undone; /* percent of the histories that stop early */

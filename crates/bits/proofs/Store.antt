@@ -62,11 +62,7 @@ store-other t i v row col h = same-word t (set t i v) row col (getD-set-other t 
 
 pub marked-by : (t : List ℕ) (i row col : ℕ) → i < length t → col < row-bits → row-words * row + col / 64 ≡ i
     → Marked t (set t i (bitOr (getD t i 0) (1 * 2 ^ (col % 64) % 2 ^ 64))) row col
-marked-by t i row col hi hc at = record {
-  here = here;
-  other = other;
-  words = λ j ne. getD-set-other t i j v 0 (λ e. ne (omega arith));
-}
+marked-by t i row col hi hc at = record { here = here; other = other }
   where
     v : ℕ
     v = bitOr (getD t i 0) (1 * 2 ^ (col % 64) % 2 ^ 64)
@@ -106,7 +102,7 @@ replaced-all {t} {u} {dst} {f} {k} l b = record {
     words i ne = b .words i (λ q. ne (q .0))
 
 -- the word i, the next one of the row dst, is stored, and its bits are those of f at its columns
-pub replaced-more : (t u : List ℕ) (dst : ℕ) (f : ℕ → ℕ) (k i v : ℕ) → row-words * dst + k ≡ i → i < length t → k < row-words
+replaced-more : (t u : List ℕ) (dst : ℕ) (f : ℕ → ℕ) (k i v : ℕ) → row-words * dst + k ≡ i → i < length t → k < row-words
     → ReplacedUpTo t u dst f k → ((c : ℕ) → c / 64 ≡ k → bit v (c % 64) ≡ f c) → ReplacedUpTo t (set u i v) dst f (k + 1)
 replaced-more t u dst f k i v at hi hk b word = record {
   size = length-set u i v ∙ b .size;
@@ -122,7 +118,7 @@ replaced-more t u dst f k i v at hi hk b word = record {
         go (no n) = store-other u i v dst c (λ e. n (omega arith)) ∙ b .here c (omega arith)
 
 -- the columns of the word k are still those of t, in every row
-pub kept : {t u : List ℕ} {dst : ℕ} {f : ℕ → ℕ} {k : ℕ} (i row c : ℕ) → row-words * row + k ≡ i → k < row-words → c / 64 ≡ k
+kept : {t u : List ℕ} {dst : ℕ} {f : ℕ → ℕ} {k : ℕ} (i row c : ℕ) → row-words * row + k ≡ i → k < row-words → c / 64 ≡ k
     → ReplacedUpTo t u dst f k → bit (getD u i 0) (c % 64) ≡ bit-at t row c
 kept {t} {u} {dst} {f} {k} i row c at hk e b =
     ap (λ (x : ℕ). bit x (c % 64)) (b .words i (λ q. omega arith)) ∙ in-word t i row c (omega arith)

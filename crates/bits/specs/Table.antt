@@ -39,11 +39,10 @@ intersection f g c = min (f c) (g c)
 abbrev pub difference : (ℕ → ℕ) → (ℕ → ℕ) → ℕ → ℕ
 difference f g c = min (f c) (1 - g c)
 
--- u is t with the bit at (row, col) set, every other bit as it was, and every word of another row as it was
+-- u is t with the bit at (row, col) set and every other bit as it was
 pub record Marked (t u : List ℕ) (row col : ℕ) : Type 0 where
   pub here : bit-at u row col ≡ 1
   pub other : (r c : ℕ) → c < row-bits → ((r ≡ row) × (c ≡ col) → ⊥) → bit-at u r c ≡ bit-at t r c
-  pub words : (i : ℕ) → (i / row-words ≡ row → ⊥) → getD u i 0 ≡ getD t i 0
 
 -- u is t with the columns f as its row dst, every other row as it was, and every word of another row as it was
 pub record Replaced (t u : List ℕ) (dst : ℕ) (f : ℕ → ℕ) : Type 0 where

@@ -104,7 +104,7 @@ pub fn keep_row(m: &mut Row, t: &Table, row: usize)
 }
 
 // Replaces the row of t by the row m.
-pub fn set_row(t: &mut Table, row: usize, m: &Row)
+pub fn replace_row(t: &mut Table, row: usize, m: &Row)
     requires { ⌜ row < rows ⌝ }
     ensures { λ r. ⌜ Replaced (now (t .entry)) (now (t .exit)) row (bit-at (now (m .entry)) 0) ⌝ }
 {
@@ -169,14 +169,14 @@ pub fn last_within(t: &Table, row: usize, mask: &Row) -> Found
     Found::Nothing
 }
 
-// The last column of the row m that is not in the row o.
-pub fn last_outside(m: &Row, o: &Row) -> Found
-    ensures { λ r. ⌜ Last (difference (bit-at (now (m .entry)) 0) (bit-at (now (o .entry)) 0)) r ⌝ }
+// The last column of the row m that is not in the mask.
+pub fn last_outside(m: &Row, mask: &Row) -> Found
+    ensures { λ r. ⌜ Last (difference (bit-at (now (m .entry)) 0) (bit-at (now (mask .entry)) 0)) r ⌝ }
 {
     let mut k = ROW_WORDS;
     while k > 0 {
         k -= 1;
-        let len = length_of(outside(m[k], o[k]));
+        let len = length_of(outside(m[k], mask[k]));
         if len > 0 {
             return Found::At(64 * k + len - 1);
         }

@@ -9,7 +9,6 @@ use Rattle.bits.specs.Table.{row-words}
 use Rattle.buffer.specs.Put.{Put}
 use Rattle.theory.specs.History.{count}
 use Rattle.theory.specs.Deck.{Step, step-of}
-use Rattle.book.specs.Book.{pairs-of}
 use Rattle.book.specs.Format.{Contents, accepted, step-limit, read}
 use Rattle.classes.specs.declared.Tested.the-variants.{Yes}
 use Rattle.judge.specs.declared.Judgement.{Judgement}
@@ -25,8 +24,8 @@ use Rattle.report.specs.Text.{Findings, refused-at, accepted-with, text-of}
 use Rattle.report.specs.Reporting.{Reports}
 use Rattle.capi.specs.declared.Answered.{Answered}
 use Rattle.capi.specs.declared.Judged.{Judged}
-use Rattle.graph.specs.Dependence.{Blank, StepsRead}
-use Rattle.claims.specs.OnePass.{Pass}
+use Rattle.graph.specs.Dependence.{Blank}
+use Rattle.claims.specs.OnePass.{Fed, RowsAfter}
 use Rattle.claims.specs.Table.{BookRow, NoRow, JudgeRow, WriterRow, GateRow, ReplayRow}
 use Rattle.claims.specs.Demands.{TurnsAway, BuffersUnchanged, WithoutRuns, answered-numbers, judged-numbers, opened-numbers, Demand2}
 use Rattle.claims.specs.Classes.{OtherCuts, JudgeAnswered, ClassesAnswered, DeckJudgeAnswered, DeckClassesAnswered, SaysYes, SaysPassed, TextSaysPassed, NestedCalls, NestedDeckCalls, NestedFindings}
@@ -102,9 +101,13 @@ pub record NestedText (s before after : List ℕ) (n : ℕ) : Type 0 where
   pub any-cuts : (s′ : List ℕ) → OtherCuts s s′ → (before′ after′ : List ℕ) (n′ : ℕ) (p′ : Reports (read s′) before′ after′ n′) (w w′ : Findings)
       → promised .report ≡ accepted-with w → p′ .report ≡ accepted-with w′ → w .conflict ≡ true → TextSaysPassed (w′ .verdict)
 
--- a pass that has come to the steps of l, and reads x as place q, the next step of run r: the rows so far and to come, and that earlier ones don't change
-pub record PassFurther (pairs catalogue catalogue′ dep dep′ : List ℕ) (q r : ℕ) (x : Step) : Type 0 where
-  pub each-step : (runs : List (List Step)) (c d l : List ℕ) → length l ≡ q → step-of runs r (count l r) ≡ x → Blank c → Blank d → Pass pairs runs [] c d l catalogue dep
-      → StepsRead (pairs-of pairs) runs (l ++ r ∷ []) catalogue′ dep′
-  pub unchanged : (runs : List (List Step)) (h c d l : List ℕ) → length l ≡ q → step-of runs r (count l r) ≡ x → Pass pairs runs h c d l catalogue dep
+-- of tables that were fed the steps of l, where x is read as place q, the next step of run r
+pub record StepFed (pairs catalogue catalogue′ dep dep′ : List ℕ) (q r : ℕ) (x : Step) : Type 0 where
+  -- they were fed one step more, so that the next call may follow,
+  pub fed : (runs : List (List Step)) (h c d l : List ℕ) → length l ≡ q → step-of runs r (count l r) ≡ x → Fed pairs runs h c d l catalogue dep
+      → Fed pairs runs h c d (l ++ r ∷ []) catalogue′ dep′
+  -- the rows so far and to come are as the one pass promises, and earlier ones are unchanged
+  pub each-step : (runs : List (List Step)) (c d l : List ℕ) → length l ≡ q → step-of runs r (count l r) ≡ x → Blank c → Blank d → Fed pairs runs [] c d l catalogue dep
+      → RowsAfter pairs runs (l ++ r ∷ []) dep′
+  pub unchanged : (runs : List (List Step)) (h c d l : List ℕ) → length l ≡ q → step-of runs r (count l r) ≡ x → Fed pairs runs h c d l catalogue dep
       → (i : ℕ) → i / row-words < length h → getD dep′ i 0 ≡ getD d i 0

@@ -1,5 +1,5 @@
 // The demands as contracts: `demand_1`, `demand_2` and `demand_3` make the public calls and ensure the demand of what they return; `nested_classes`,
-// `nested_deck_classes` and `nested_text` ask for the classes of a book and ensure that they are nested; `pass_further` reads one more step of a history and
+// `nested_deck_classes` and `nested_text` ask for the classes of a book and ensure that they are nested; `feed_step` has one more step of a history read, and
 // ensures what the one pass over it promises. `claims` states the demands, the nested classes and the one pass, and proves them of whatever meets the calls'
 // contracts.
 use bits::Table;
@@ -19,7 +19,7 @@ ghost use Rattle.book.specs.Format.{kind-limit, run-limit, step-limit};
 ghost use Rattle.book.specs.Book.{Valid, as-step, outcome-by};
 ghost use Rattle.gate.specs.Plain.{step as step-call, withdraw as withdraw-call};
 ghost use Rattle.capi.specs.Calls.{GateCall};
-ghost use Rattle.demands.specs.Results.{BookRefusals, JudgeRefusals, WriteRefusals, ReplayRefusals, TextRefusals, GateRefusals, Demand2Of, Demand3Of, NestedAnswers, NestedDeckAnswers, NestedText, PassFurther};
+ghost use Rattle.demands.specs.Results.{BookRefusals, JudgeRefusals, WriteRefusals, ReplayRefusals, TextRefusals, GateRefusals, Demand2Of, Demand3Of, NestedAnswers, NestedDeckAnswers, NestedText, StepFed};
 ghost use Rattle.demands.specs.inner.Readings.{OutcomeAnswered};
 
 // What the calls that read a book and change nothing return.
@@ -269,8 +269,8 @@ pub fn nested_text(s: &[u8], text: &mut [u8; report::TEXT]) -> usize
     report::report(s, text)
 }
 
-// Reads one more step, x of run r, as place q.
-pub fn pass_further(
+// Has one more step, x of run r, read as place q.
+pub fn feed_step(
     pairs: &[u8; Book::PAIRS_SIZE],
     q: usize,
     r: usize,
@@ -279,7 +279,7 @@ pub fn pass_further(
     dep: &mut Table,
 )
     requires { ⌜ (q < step-limit) × (r < run-limit) × (x .kind < kind-limit) ⌝ }
-    ensures { λ _. ⌜ PassFurther (now (pairs .entry)) (now (catalogue .entry)) (now (catalogue .exit)) (now (dep .entry)) (now (dep .exit)) q r (as-step x) ⌝ }
+    ensures { λ _. ⌜ StepFed (now (pairs .entry)) (now (catalogue .entry)) (now (catalogue .exit)) (now (dep .entry)) (now (dep .exit)) q r (as-step x) ⌝ }
 {
     graph::read_step(pairs, q, r, x, catalogue, dep);
 }

@@ -18,8 +18,7 @@ use Rattle.theory.specs.Graph.{FirstOf, LastOf, ArcD, Arc, arc-I, arc-D, arc-F,
 use Rattle.theory.proofs.Steps.{dep-lt, dep-inside}
 use Rattle.book.specs.Format.{run-limit, step-limit}
 use Rattle.graph.specs.Units.{EachPlace}
-use Rattle.graph.specs.Catalogue.{base}
-use Rattle.graph.specs.inner.Reading.{run-part}
+use Rattle.graph.specs.Catalogue.{base, run-part}
 use Rattle.graph.specs.inner.Tables.{HistoryOf, Declared, NumberAt}
 use Rattle.graph.specs.inner.Arcs.{Gained, ArcOf, by-I, by-D, by-F, by-B, Below, ArcOfPlaces, ArcOfRuns, RunRows, TablesOf, GainedBy, ArcRows, ArcInput, Rowed}
 use Rattle.graph.proofs.Counting.{low, clash, below-next, history-length, history-run, history-small}

@@ -27,7 +27,7 @@ use Rattle.graph.specs.Marks.{Marks}
 use Rattle.graph.specs.Units.{UnchangedFrom, UnitTables}
 use Rattle.graph.specs.inner.Tables.{Small, HistoryOf, Declared, Starts, StepsRoom, step-in, Counts, CutsOf, EachBy}
 use Rattle.graph.specs.Dependence.{StepsRead}
-use Rattle.graph.specs.inner.Reading.{HistoryRead}
+use Rattle.graph.specs.inner.Reading.{ReadFromCodes}
 use Rattle.graph.specs.inner.Arcs.{RunRows, TablesOf, ArcRows}
 use Rattle.graph.proofs.Counting.{history-length, history-run, history-small}
 use Rattle.graph.proofs.Catalogue.{run-rows}
@@ -186,7 +186,7 @@ module _ (b : Book) (v : Valid b) where
 
   -- ---- dependence
 
-  pub book-read : (starts catalogue dep : List ℕ) → Starts (b .lengths) starts → HistoryRead (b .pairs) h starts (b .steps) catalogue dep
+  pub book-read : (starts catalogue dep : List ℕ) → Starts (b .lengths) starts → ReadFromCodes (b .pairs) h starts (b .steps) catalogue dep
       → StepsRead (contents-of b .pairs) (contents-of b .runs) (contents-of b .history) catalogue dep
   unfolding contents-of
   book-read starts catalogue dep s r = r .read (contents-of b .runs) (record { at = λ p i. step-is p i starts s })

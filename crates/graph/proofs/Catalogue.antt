@@ -1,5 +1,5 @@
 -- The catalogue of the places read: which places it finds, and what one step more makes of it.
-use Prim.Native.Nat.{ℕ, zero, suc, _+_, _*_, _/_, _%_, _≤_, _<_, max}
+use Prim.Native.Nat.{ℕ, zero, suc, _+_, _*_, _/_, _%_, _≤_, _<_}
 use native.Mathlib.Decide.{ℕ-discrete}
 use native.Mathlib.Omega.{arith}
 use mathlib.Core.Path.{_≡_, refl, sym, ap, _∙_}
@@ -18,10 +18,11 @@ use Rattle.theory.proofs.Lists.{length-snoc}
 use Rattle.theory.proofs.Within.{front}
 use Rattle.book.specs.Format.{kind-limit}
 use Rattle.book.specs.Book.{pairs-of}
-use Rattle.graph.specs.Catalogue.{base, part, step-at, PartIs, Catalogued}
-use Rattle.graph.specs.inner.Reading.{digit-parts, kind-part, run-part, parts, PartRow, Entered, Has, Finds, Paired, KindAdded, PairedAt, Linked}
+use Rattle.graph.specs.Catalogue.{base, part, done-step, PartIs, Catalogued, digit-parts, kind-part, run-part, parts}
+use Rattle.graph.specs.inner.Reading.{PartRow, Entered, Has, Finds, Paired, KindAdded, PairedAt, Linked}
 use Rattle.graph.specs.inner.Arcs.{RunRows}
 use Rattle.graph.proofs.Counting.{low, clash, below-next}
+use Rattle.graph.proofs.Rows.{added-from, added, kept-from, kept}
 
 -- ---- the rows of the parts
 
@@ -43,46 +44,24 @@ run-only (suc (suc (suc (suc (suc (suc k)))))) l n0 n1 n2 n3 n4 = absurd (beyond
 
 -- ---- which places are found
 
-either-one : (a b : ℕ) → a < 2 → b < 2 → max a b ≡ 1 → (a ≡ 1) ⊎ (b ≡ 1)
-either-one a b la lb e = go (ℕ-discrete a 1)
-  where
-    go : Dec (a ≡ 1) → (a ≡ 1) ⊎ (b ≡ 1)
-    go (yes y) = inl y
-    go (no n) = inr (omega arith)
-
 holds : (b : Bool) → T b → b ≡ true
 holds true t = refl
 holds false t = absurd t
 
--- a column that is added from a row of the catalogue, or kept because that row has it too
-module _ (m u : List ℕ) (f : ℕ → ℕ) (f-lt : (c : ℕ) → f c < 2) where
-  added-from : Replaced m u 0 (union (bit-at m 0) f) → (p : ℕ) → p < row-bits → bit-at u 0 p ≡ 1 → (bit-at m 0 p ≡ 1) ⊎ (f p ≡ 1)
-  added-from w p h e = either-one (bit-at m 0 p) (f p) (bit-at-lt m 0 p) (f-lt p) (sym (w .here p h) ∙ e)
-
-  added : Replaced m u 0 (union (bit-at m 0) f) → (p : ℕ) → p < row-bits → (bit-at m 0 p ≡ 1) ⊎ (f p ≡ 1) → bit-at u 0 p ≡ 1
-  added w p h (inl e) = omega (arith, w .here p h, f-lt p, e)
-  added w p h (inr e) = omega (arith, w .here p h, bit-at-lt m 0 p, e)
-
-  kept-from : Replaced m u 0 (intersection (bit-at m 0) f) → (p : ℕ) → p < row-bits → bit-at u 0 p ≡ 1 → (bit-at m 0 p ≡ 1) × (f p ≡ 1)
-  kept-from w p h e = (omega (arith, w .here p h, bit-at-lt m 0 p, f-lt p, e), omega (arith, w .here p h, bit-at-lt m 0 p, f-lt p, e))
-
-  kept : Replaced m u 0 (intersection (bit-at m 0) f) → (p : ℕ) → p < row-bits → bit-at m 0 p ≡ 1 → f p ≡ 1 → bit-at u 0 p ≡ 1
-  kept w p h a b = omega (arith, w .here p h, a, b)
-
 -- what a row of the catalogue has
 module _ (runs : List (List Step)) (h t : List ℕ) (c : Catalogued runs h t) (k v row p : ℕ) (e : row ≡ k * base + v) (l : v < base) (i : row < rows) (hp : p < row-bits) where
-  in-row : bit-at t row p ≡ 1 → (p < length h) × (part (run h p) (step-at runs h p) k ≡ v)
+  in-row : bit-at t row p ≡ 1 → (p < length h) × (part (run h p) (done-step runs h p) k ≡ v)
   in-row b =
       let w = c .marks .sound p row hp i b in
       let ek : row / base ≡ k = omega arith in
       let ev : row % base ≡ v = omega arith in
-      (w .inside, ap (part (run h p) (step-at runs h p)) (sym ek) ∙ w .is ∙ ev)
+      (w .inside, ap (part (run h p) (done-step runs h p)) (sym ek) ∙ w .is ∙ ev)
 
-  to-row : p < length h → part (run h p) (step-at runs h p) k ≡ v → bit-at t row p ≡ 1
+  to-row : p < length h → part (run h p) (done-step runs h p) k ≡ v → bit-at t row p ≡ 1
   to-row j s =
       let ek : row / base ≡ k = omega arith in
       let ev : row % base ≡ v = omega arith in
-      c .marks .complete p row hp i (record { inside = j; is = ap (part (run h p) (step-at runs h p)) ek ∙ s ∙ sym ev })
+      c .marks .complete p row hp i (record { inside = j; is = ap (part (run h p) (done-step runs h p)) ek ∙ s ∙ sym ev })
 
 pub run-rows : (runs : List (List Step)) (h t : List ℕ) (n : ℕ) → length h ≡ n → Catalogued runs h t → RunRows h n t
 run-rows runs h t n e c = record {
@@ -93,47 +72,53 @@ run-rows runs h t n e c = record {
 module _ (pairs t : List ℕ) (kind : ℕ) where
   pub paired-none : (n : ℕ) → Finds (Paired pairs kind 0) t (replicate n 0)
   paired-none n = record {
-    sound = λ runs h c p i e. absurd (clash (zeros-bit n 0 p) e);
-    complete = λ runs h c p i w. absurd (low _ (w .holds .low));
+    columns = λ runs h c. record {
+      sound = λ p i e. absurd (clash (zeros-bit n 0 p) e);
+      complete = λ p i w. absurd (low _ (w .holds .low));
+    };
   }
 
   module _ (m : List ℕ) (k : ℕ) (answer : Bool) (e : answer ≡ listed (pairs-of pairs) k kind) where
     wider : {runs : List (List Step)} {h : List ℕ} {p : ℕ} → Has (Paired pairs kind k) runs h p → Has (Paired pairs kind (k + 1)) runs h p
     wider a = record { inside = a .inside; holds = record { low = omega (arith, a .holds .low); paired = a .holds .paired } }
 
-    narrower : {runs : List (List Step)} {h : List ℕ} {p : ℕ} → Has (Paired pairs kind (k + 1)) runs h p → step-at runs h p .kind < k → Has (Paired pairs kind k) runs h p
+    narrower : {runs : List (List Step)} {h : List ℕ} {p : ℕ} → Has (Paired pairs kind (k + 1)) runs h p → done-step runs h p .kind < k → Has (Paired pairs kind k) runs h p
     narrower a l = record { inside = a .inside; holds = record { low = l; paired = a .holds .paired } }
 
     pub kind-skip : answer ≡ false → KindAdded pairs t kind k m m
     kind-skip z = record { more = λ w. skipped w }
       where
         other : (runs : List (List Step)) (h : List ℕ) (p : ℕ) → Has (Paired pairs kind (k + 1)) runs h p
-            → (step-at runs h p .kind ≡ k) ⊎ (step-at runs h p .kind < k) → step-at runs h p .kind < k
+            → (done-step runs h p .kind ≡ k) ⊎ (done-step runs h p .kind < k) → done-step runs h p .kind < k
         other runs h p a (inr l) = l
         other runs h p a (inl y) = absurd (rw (y, ← e, z) at (a .holds .paired))
 
         skipped : Finds (Paired pairs kind k) t m → Finds (Paired pairs kind (k + 1)) t m
         skipped w = record {
-          sound = λ runs h c p i b. wider (w .sound runs h c p i b);
-          complete = λ runs h c p i a. w .complete runs h c p i (narrower a (other runs h p a (below-next (step-at runs h p .kind) k (a .holds .low))));
+          columns = λ runs h c. record {
+            sound = λ p i b. wider (w .columns runs h c .sound p i b);
+            complete = λ p i a. w .columns runs h c .complete p i (narrower a (other runs h p a (below-next (done-step runs h p .kind) k (a .holds .low))));
+          };
         }
 
     with-kind : (u : List ℕ) (row : ℕ) → answer ≡ true → k < kind-limit → row ≡ kind-part * base + k → Replaced m u 0 (union (bit-at m 0) (bit-at t row)) → Finds (Paired pairs kind k) t m → Finds (Paired pairs kind (k + 1)) t u
     with-kind u row z lk er r w = record {
-      sound = λ runs h c p i b. from runs h c p i (added-from m u (bit-at t row) (bit-at-lt t row) r p i b);
-      complete = λ runs h c p i a. added m u (bit-at t row) (bit-at-lt t row) r p i (to runs h c p i a (below-next (step-at runs h p .kind) k (a .holds .low)));
+      columns = λ runs h c. record {
+        sound = λ p i b. from runs h c p i (added-from m u (bit-at t row) (bit-at-lt t row) r p i b);
+        complete = λ p i a. added m u (bit-at t row) (bit-at-lt t row) r p i (to runs h c p i a (below-next (done-step runs h p .kind) k (a .holds .low)));
+      };
     }
       where
         from : (runs : List (List Step)) (h : List ℕ) → Catalogued runs h t → (p : ℕ) → p < row-bits
             → (bit-at m 0 p ≡ 1) ⊎ (bit-at t row p ≡ 1) → Has (Paired pairs kind (k + 1)) runs h p
-        from runs h c p i (inl b) = wider (w .sound runs h c p i b)
+        from runs h c p i (inl b) = wider (w .columns runs h c .sound p i b)
         from runs h c p i (inr b) =
             let f = in-row runs h t c kind-part k row p er (omega arith) (omega arith) i b in
             record { inside = f .0; holds = record { low = omega (arith, f .1); paired = rw (f .1, ← e, z) tt } }
 
         to : (runs : List (List Step)) (h : List ℕ) → Catalogued runs h t → (p : ℕ) → p < row-bits → Has (Paired pairs kind (k + 1)) runs h p
-            → (step-at runs h p .kind ≡ k) ⊎ (step-at runs h p .kind < k) → (bit-at m 0 p ≡ 1) ⊎ (bit-at t row p ≡ 1)
-        to runs h c p i a (inr l) = inl (w .complete runs h c p i (narrower a l))
+            → (done-step runs h p .kind ≡ k) ⊎ (done-step runs h p .kind < k) → (bit-at m 0 p ≡ 1) ⊎ (bit-at t row p ≡ 1)
+        to runs h c p i a (inr l) = inl (w .columns runs h c .complete p i (narrower a l))
         to runs h c p i a (inl y) = inr (to-row runs h t c kind-part k row p er (omega arith) (omega arith) i (a .inside) y)
 
     pub kind-add : (u : List ℕ) → answer ≡ true → k < kind-limit → Replaced m u 0 (union (bit-at m 0) (bit-at t (kind-part * base + k))) → KindAdded pairs t kind k m u
@@ -151,21 +136,25 @@ module _ (pairs t : List ℕ) (r : ℕ) (x : Step) where
 
   pub at-none : (m : List ℕ) (kind : ℕ) → kind ≡ x .kind → Finds (Paired pairs kind kind-limit) t m → Finds (PairedAt pairs r x 0) t m
   at-none m kind e v = let w : Finds (Paired pairs (x .kind) kind-limit) t m = rw e at v in record {
-    sound = λ runs h c p i b. let a = w .sound runs h c p i b in record { inside = a .inside; holds = record { kinds = a .holds; same = λ k l. absurd (low k l) } };
-    complete = λ runs h c p i a. w .complete runs h c p i (record { inside = a .inside; holds = a .holds .kinds });
+    columns = λ runs h c. record {
+      sound = λ p i b. let a = w .columns runs h c .sound p i b in record { inside = a .inside; holds = record { kinds = a .holds; same = λ k l. absurd (low k l) } };
+      complete = λ p i a. w .columns runs h c .complete p i (record { inside = a .inside; holds = a .holds .kinds });
+    };
   }
 
   pub at-keep : (m u : List ℕ) (k row : ℕ) → PartRow r x k row → Replaced m u 0 (intersection (bit-at m 0) (bit-at t row)) → Finds (PairedAt pairs r x k) t m → Finds (PairedAt pairs r x (k + 1)) t u
   at-keep m u k row d s w = record {
-    sound = λ runs h c p i b. from runs h c p i (kept-from m u (bit-at t row) (bit-at-lt t row) s p i b);
-    complete = λ runs h c p i a. kept m u (bit-at t row) (bit-at-lt t row) s p i
-        (w .complete runs h c p i (record { inside = a .inside; holds = record { kinds = a .holds .kinds; same = λ j l. a .holds .same j (omega arith) } }))
-        (to-row runs h t c k (part r x k) row p (d .is) (d .low) (d .in-table) i (a .inside) (a .holds .same k (omega arith)));
+    columns = λ runs h c. record {
+      sound = λ p i b. from runs h c p i (kept-from m u (bit-at t row) (bit-at-lt t row) s p i b);
+      complete = λ p i a. kept m u (bit-at t row) (bit-at-lt t row) s p i
+          (w .columns runs h c .complete p i (record { inside = a .inside; holds = record { kinds = a .holds .kinds; same = λ j l. a .holds .same j (omega arith) } }))
+          (to-row runs h t c k (part r x k) row p (d .is) (d .low) (d .in-table) i (a .inside) (a .holds .same k (omega arith)));
+    };
   }
     where
       from : (runs : List (List Step)) (h : List ℕ) → Catalogued runs h t → (p : ℕ) → p < row-bits → (bit-at m 0 p ≡ 1) × (bit-at t row p ≡ 1) → Has (PairedAt pairs r x (k + 1)) runs h p
       from runs h c p i b =
-          let a = w .sound runs h c p i (b .0) in
+          let a = w .columns runs h c .sound p i (b .0) in
           let f = in-row runs h t c k (part r x k) row p (d .is) (d .low) (d .in-table) i (b .1) in
           record { inside = a .inside; holds = record { kinds = a .holds .kinds; same = λ j l. go j (below-next j k l) (a .holds .same) (f .1) } }
         where
@@ -202,7 +191,7 @@ first-of : (b c : Bool) → T (b && c) → T b
 first-of true c t = tt
 first-of false c t = t
 
-second-of : (b c : Bool) → T (b && c) → T c
+pub second-of : (b c : Bool) → T (b && c) → T c
 second-of true c t = t
 second-of false c t = absurd t
 
@@ -221,18 +210,20 @@ module _ (pairs t : List ℕ) (r : ℕ) (x : Step) (m u : List ℕ) (row : ℕ) 
 
   pub linked-all : Finds (Linked pairs r x) t u
   linked-all = record {
-    sound = λ runs h c p i b. from runs h c p i (added-from m u (bit-at t row) (bit-at-lt t row) s p i b);
-    complete = λ runs h c p i a. added m u (bit-at t row) (bit-at-lt t row) s p i (to runs h c p i (a .inside) (a .holds));
+    columns = λ runs h c. record {
+      sound = λ p i b. from runs h c p i (added-from m u (bit-at t row) (bit-at-lt t row) s p i b);
+      complete = λ p i a. added m u (bit-at t row) (bit-at-lt t row) s p i (to runs h c p i (a .inside) (a .holds));
+    };
   }
     where
       from : (runs : List (List Step)) (h : List ℕ) → Catalogued runs h t → (p : ℕ) → p < row-bits → (bit-at m 0 p ≡ 1) ⊎ (bit-at t row p ≡ 1) → Has (Linked pairs r x) runs h p
-      from runs h c p i (inl b) = let a = w .sound runs h c p i b in record { inside = a .inside; holds = inr (at-conflict (step-at runs h p) (run h p) (a .holds)) }
+      from runs h c p i (inl b) = let a = w .columns runs h c .sound p i b in record { inside = a .inside; holds = inr (at-conflict (done-step runs h p) (run h p) (a .holds)) }
       from runs h c p i (inr b) = let f = in-row runs h t c run-part r row p (d .is) (d .low) (d .in-table) i b in record { inside = f .0; holds = inl (f .1) }
 
-      to : (runs : List (List Step)) (h : List ℕ) → Catalogued runs h t → (p : ℕ) → p < row-bits → p < length h → Linked pairs r x (run h p) (step-at runs h p)
+      to : (runs : List (List Step)) (h : List ℕ) → Catalogued runs h t → (p : ℕ) → p < row-bits → p < length h → Linked pairs r x (run h p) (done-step runs h p)
           → (bit-at m 0 p ≡ 1) ⊎ (bit-at t row p ≡ 1)
       to runs h c p i j (inl e) = inr (to-row runs h t c run-part r row p (d .is) (d .low) (d .in-table) i j e)
-      to runs h c p i j (inr b) = inl (w .complete runs h c p i (record { inside = j; holds = conflict-at (step-at runs h p) (run h p) (c .kinds p j) b }))
+      to runs h c p i j (inr b) = inl (w .columns runs h c .complete p i (record { inside = j; holds = conflict-at (done-step runs h p) (run h p) (c .kinds p j) b }))
 
 -- ---- one step more
 
@@ -273,20 +264,20 @@ module _ (runs : List (List Step)) (h : List ℕ) (r : ℕ) where
   pub last-run : run (h ++ r ∷ []) (length h) ≡ r
   last-run = getD-append-seam h r [] 0
 
-  pub last-step : step-at runs (h ++ r ∷ []) (length h) ≡ step-of runs r (count h r)
+  pub last-step : done-step runs (h ++ r ∷ []) (length h) ≡ step-of runs r (count h r)
   unfolding ordinal
   last-step = rw (last-run, take-append-seam h (r ∷ []))
 
-  pub front-step : (p : ℕ) → p < length h → step-at runs (h ++ r ∷ []) p ≡ step-at runs h p
+  pub front-step : (p : ℕ) → p < length h → done-step runs (h ++ r ∷ []) p ≡ done-step runs h p
   front-step p i = let s = front h (r ∷ []) p i in rw (s .runs, s .ordinals)
 
 module _ (runs : List (List Step)) (h t u : List ℕ) (q r : ℕ) (x : Step) (eq : length h ≡ q) (ex : step-of runs r (count h r) ≡ x) (c : Catalogued runs h t) (w : Entered t u q r x parts)
     (hq : q < row-bits) where
-  last-part : (k : ℕ) → part (run (h ++ r ∷ []) q) (step-at runs (h ++ r ∷ []) q) k ≡ part r x k
+  last-part : (k : ℕ) → part (run (h ++ r ∷ []) q) (done-step runs (h ++ r ∷ []) q) k ≡ part r x k
   last-part k = rw (← eq, last-step runs h r, last-run runs h r, ex)
 
-  front-part : (p k : ℕ) → p < length h → part (run (h ++ r ∷ []) p) (step-at runs (h ++ r ∷ []) p) k ≡ part (run h p) (step-at runs h p) k
-  front-part p k i = let s = front h (r ∷ []) p i in rw (s .runs, s .ordinals)
+  front-part : (p k : ℕ) → p < length h → part (run (h ++ r ∷ []) p) (done-step runs (h ++ r ∷ []) p) k ≡ part (run h p) (done-step runs h p) k
+  front-part p k i = rw (front-step runs h r p i, front h (r ∷ []) p i .runs)
 
   longer : length (h ++ r ∷ []) ≡ suc (length h)
   longer = length-snoc h r
@@ -319,6 +310,6 @@ module _ (runs : List (List Step)) (h t u : List ℕ) (q r : ℕ) (x : Step) (eq
           let i : p < length h = omega (arith, longer, a .inside) in
           w .other y p hp (λ e d f. n e) ∙ c .marks .complete p y hp hy (record { inside = i; is = sym (front-part p (y / base) i) ∙ a .is })
 
-      kinds : (p : ℕ) → p < length (h ++ r ∷ []) → Dec (p ≡ q) → step-at runs (h ++ r ∷ []) p .kind < kind-limit
+      kinds : (p : ℕ) → p < length (h ++ r ∷ []) → Dec (p ≡ q) → done-step runs (h ++ r ∷ []) p .kind < kind-limit
       kinds p i (yes z) = rw (z, ← eq, last-step runs h r, ex) lk
       kinds p i (no n) = let j : p < length h = omega (arith, longer) in rw (front-step runs h r p j) (c .kinds p j)

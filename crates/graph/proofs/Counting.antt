@@ -5,10 +5,9 @@ use native.Mathlib.Omega.{arith}
 use mathlib.Core.Path.{_≡_, refl}
 use mathlib.Core.Logic.{_⊎_, _≢_}
 use mathlib.Core.List.{List}
-use lib.ListN.{length, getD, take, replicate}
+use lib.ListN.{length, getD, take}
 use lib.Seq.{getD-take, length-take-le}
 use Rattle.theory.specs.History.{run}
-use Rattle.theory.proofs.Lists.{getD-zeros}
 use Rattle.theory.proofs.Finite.{below-suc}
 use Rattle.book.specs.Format.{run-limit}
 use Rattle.graph.specs.inner.Tables.{Small, HistoryOf, NumberAt, by-flag}
@@ -34,9 +33,6 @@ history-run history n p i = getD-take n history p 0 i
 
 pub history-small : {history : List ℕ} {n : ℕ} → HistoryOf history n → (p : ℕ) → p < length (take n history) → run (take n history) p < run-limit
 history-small {history} {n} w p i = rw (history-run history n p (rw (history-length w) at i)) (w .runs .small p)
-
-pub zeros-small : (m n : ℕ) → 0 < m → Small m (replicate n 0)
-zeros-small m n h = record { small = λ i. omega (arith, getD-zeros n i) }
 
 -- what stands where there is no flag, and where there is one
 pub flag-none : (n a b : ℕ) → n ≡ 0 → by-flag n a b ≡ a

@@ -1,14 +1,14 @@
 -- The dependence table, one row after another. A row takes the places on which its place directly depends, from the last down, each with what
 -- it depends on. A place that the row has already adds nothing, since with a place the row has all that the place depends on.
-use Prim.Native.Nat.{ℕ, suc, _+_, _-_, _≤_, _<_, max}
+use Prim.Native.Nat.{ℕ, suc, _+_, _-_, _≤_, _<_}
 use native.Mathlib.Decide.{ℕ-discrete, decLt}
 use native.Mathlib.Omega.{arith}
 use mathlib.Core.Path.{_≡_, sym, ap, _∙_}
 use mathlib.Core.Logic.{_⊎_, inl, inr}
-use mathlib.Core.Bool.{Bool, true, false, _&&_, not}
+use mathlib.Core.Bool.{Bool, _&&_, not}
 use mathlib.Core.List.{List, [], _∷_, _++_}
 use lib.ListN.{length, replicate}
-use lib.Dec.{T, eqb}
+use lib.Dec.{eqb}
 use borrow.Author.Tests.{ne-eqb}
 use Rattle.bits.specs.Table.{row-bits, rows, bit-at, union, difference, Marked, Replaced}
 use Rattle.bits.specs.First.{NoColumn}
@@ -24,12 +24,13 @@ use Rattle.theory.proofs.Steps.{dep-inside}
 use Rattle.theory.proofs.Within.{front, front-depends, depends-front}
 use Rattle.book.specs.Format.{kind-limit}
 use Rattle.book.specs.Book.{pairs-of}
-use Rattle.graph.specs.Marks.{Marks}
-use Rattle.graph.specs.Catalogue.{step-at}
+use Rattle.graph.specs.Marks.{Marks, Columns}
+use Rattle.graph.specs.Catalogue.{done-step, parts}
 use Rattle.graph.specs.Dependence.{Blank, StepsRead, StepRead}
-use Rattle.graph.specs.inner.Reading.{parts, Entered, Finds, Linked, DependsSoFar, DirectRow, DependenceRow, RowFrom}
+use Rattle.graph.specs.inner.Reading.{Entered, Finds, Linked, DependsSoFar, RowFrom}
 use Rattle.graph.proofs.Counting.{low, clash}
-use Rattle.graph.proofs.Catalogue.{catalogued-more, last-run, last-step, front-step}
+use Rattle.graph.proofs.Rows.{added-from, added}
+use Rattle.graph.proofs.Catalogue.{second-of, catalogued-more, last-run, last-step, front-step}
 
 pub dep-trans : {conflict : ℕ → ℕ → ℕ → ℕ → Bool} {h : List ℕ} {x k q : ℕ} → Depends conflict h x k → Depends conflict h k q → Depends conflict h x q
 dep-trans e (direct d) = through e d
@@ -42,14 +43,14 @@ pub record ClosedRow (conflict : ℕ → ℕ → ℕ → ℕ → Bool) (h : List
   pub sound : (x : ℕ) → x < row-bits → bit-at m 0 x ≡ 1 → Depends conflict h x q
   pub closed : (x k : ℕ) → x < row-bits → k < row-bits → bit-at m 0 k ≡ 1 → Depends conflict h x k → bit-at m 0 x ≡ 1
 
--- the row m has taken the places of the direct row from `end` on
+-- the row m has taken the linked places from `end` on
 pub record RowTaken (dep linked m : List ℕ) (end : ℕ) : Type 0 where
   pub taken : (k : ℕ) → k < row-bits → end ≤ k → bit-at linked 0 k ≡ 1 → bit-at m 0 k ≡ 1
-  pub row : (conflict : ℕ → ℕ → ℕ → ℕ → Bool) (h : List ℕ) (q : ℕ) → q < rows → DirectRow conflict h q linked → Marks (DependsSoFar conflict h q) dep → ClosedRow conflict h q m
+  pub row : (conflict : ℕ → ℕ → ℕ → ℕ → Bool) (h : List ℕ) (q : ℕ) → q < rows → Columns (λ p. DirectlyDepends conflict h p q) linked → Marks (DependsSoFar conflict h q) dep → ClosedRow conflict h q m
 
 module _ (dep linked : List ℕ) where
-  pub row-none : (n : ℕ) → RowTaken dep linked (replicate n 0) row-bits
-  row-none n = record {
+  pub closure-none : (n : ℕ) → RowTaken dep linked (replicate n 0) row-bits
+  closure-none n = record {
     taken = λ k h l e. omega arith;
     row = λ conflict h q i d t. record { sound = λ x hx e. absurd (clash (zeros-bit n 0 x) e); closed = λ x k hx hk e f. absurd (clash (zeros-bit n 0 k) e) };
   }
@@ -58,7 +59,7 @@ module _ (dep linked : List ℕ) where
     taken-all : ((k : ℕ) → k < row-bits → bit-at linked 0 k ≡ 1 → bit-at m 0 k ≡ 1) → RowFrom dep linked m
     taken-all all = record { row = λ conflict h q i d t. is conflict h q i d (w .row conflict h q i d t) }
       where
-        is : (conflict : ℕ → ℕ → ℕ → ℕ → Bool) (h : List ℕ) (q : ℕ) → q < rows → DirectRow conflict h q linked → ClosedRow conflict h q m → DependenceRow conflict h q m
+        is : (conflict : ℕ → ℕ → ℕ → ℕ → Bool) (h : List ℕ) (q : ℕ) → q < rows → Columns (λ p. DirectlyDepends conflict h p q) linked → ClosedRow conflict h q m → Columns (λ p. Depends conflict h p q) m
         is conflict h q i d r = record { sound = r .sound; complete = complete }
           where
             complete : (p : ℕ) → p < row-bits → Depends conflict h p q → bit-at m 0 p ≡ 1
@@ -67,24 +68,24 @@ module _ (dep linked : List ℕ) where
                 let hk : k < row-bits = omega (arith, e .before) in
                 r .closed p k hp hk (all k hk (d .complete k hk e)) f
 
-    pub row-end : end ≤ 0 → RowFrom dep linked m
-    row-end z = taken-all (λ k h e. w .taken k h (omega arith) e)
+    pub closure-end : end ≤ 0 → RowFrom dep linked m
+    closure-end z = taken-all (λ k h e. w .taken k h (omega arith) e)
 
-    pub row-full : (found : Found) → Last (difference (bit-at linked 0) (bit-at m 0)) found → found ≡ Nothing → RowFrom dep linked m
-    row-full found f e = let n : NoColumn (difference (bit-at linked 0) (bit-at m 0)) = rw e at f in taken-all (λ k h e. omega (arith, n .none k h, bit-at-lt m 0 k))
+    pub closure-full : (found : Found) → Last (difference (bit-at linked 0) (bit-at m 0)) found → found ≡ Nothing → RowFrom dep linked m
+    closure-full found f e = let n : NoColumn (difference (bit-at linked 0) (bit-at m 0)) = rw e at f in taken-all (λ k h e. omega (arith, n .none k h, bit-at-lt m 0 k))
 
     module _ (found : Found) (p : ℕ) (f : Last (difference (bit-at linked 0) (bit-at m 0)) found) (ef : found ≡ At p) where
       at-last : LastAt (difference (bit-at linked 0) (bit-at m 0)) p
       at-last = rw ef at f
 
-      pub row-place : p < rows
-      row-place = at-last .in-row
+      pub closure-place : p < rows
+      closure-place = at-last .in-row
 
       in-linked : bit-at linked 0 p ≡ 1
       in-linked = omega (arith, at-last .here, bit-at-lt linked 0 p)
 
-      pub row-less : p < end
-      row-less = go (decLt p end)
+      pub closure-less : p < end
+      closure-less = go (decLt p end)
         where
           go : Dec (p < end) → p < end
           go (yes y) = y
@@ -95,34 +96,26 @@ module _ (dep linked : List ℕ) where
         from : (c : ℕ) → c < row-bits → bit-at v 0 c ≡ 1 → (c ≡ p) ⊎ ((bit-at m 0 c ≡ 1) ⊎ (bit-at dep p c ≡ 1))
         from c h e = go (ℕ-discrete c p)
           where
-            either : max (bit-at m 0 c) (bit-at dep p c) ≡ 1 → Dec (bit-at m 0 c ≡ 1) → (bit-at m 0 c ≡ 1) ⊎ (bit-at dep p c ≡ 1)
-            either b (yes o) = inl o
-            either b (no n) = inr (omega (arith, b, n, bit-at-lt m 0 c, bit-at-lt dep p c))
-
             go : Dec (c ≡ p) → (c ≡ p) ⊎ ((bit-at m 0 c ≡ 1) ⊎ (bit-at dep p c ≡ 1))
             go (yes z) = inl z
-            go (no n) = inr (either (sym (j .here c h) ∙ sym (k .other 0 c h (λ z. n (z .1))) ∙ e) (ℕ-discrete (bit-at m 0 c) 1))
+            go (no n) = inr (added-from m u (bit-at dep p) (bit-at-lt dep p) j c h (sym (k .other 0 c h (λ z. n (z .1))) ∙ e))
 
         to : (c : ℕ) → c < row-bits → (c ≡ p) ⊎ ((bit-at m 0 c ≡ 1) ⊎ (bit-at dep p c ≡ 1)) → bit-at v 0 c ≡ 1
         to c h b = go (ℕ-discrete c p) b
           where
-            top : (bit-at m 0 c ≡ 1) ⊎ (bit-at dep p c ≡ 1) → max (bit-at m 0 c) (bit-at dep p c) ≡ 1
-            top (inl e) = omega (arith, bit-at-lt m 0 c, bit-at-lt dep p c)
-            top (inr e) = omega (arith, bit-at-lt m 0 c, bit-at-lt dep p c)
-
             go : Dec (c ≡ p) → (c ≡ p) ⊎ ((bit-at m 0 c ≡ 1) ⊎ (bit-at dep p c ≡ 1)) → bit-at v 0 c ≡ 1
             go (yes z) a = ap (bit-at v 0) z ∙ k .here
             go (no n) (inl z) = absurd (n z)
-            go (no n) (inr a) = k .other 0 c h (λ z. n (z .1)) ∙ j .here c h ∙ top a
+            go (no n) (inr a) = k .other 0 c h (λ z. n (z .1)) ∙ added m u (bit-at dep p) (bit-at-lt dep p) j c h a
 
-        pub row-more : RowTaken dep linked v p
-        row-more = record { taken = λ c h b e. taken c h b e (ℕ-discrete c p); row = λ conflict h q i d t. more conflict h q i d t (w .row conflict h q i d t) }
+        pub closure-more : RowTaken dep linked v p
+        closure-more = record { taken = λ c h b e. taken c h b e (ℕ-discrete c p); row = λ conflict h q i d t. more conflict h q i d t (w .row conflict h q i d t) }
           where
             taken : (c : ℕ) → c < row-bits → p ≤ c → bit-at linked 0 c ≡ 1 → Dec (c ≡ p) → bit-at v 0 c ≡ 1
             taken c h b e (yes z) = to c h (inl z)
             taken c h b e (no n) = to c h (inr (inl (omega (arith, at-last .after c (omega arith) h, bit-at-lt m 0 c))))
 
-            more : (conflict : ℕ → ℕ → ℕ → ℕ → Bool) (h : List ℕ) (q : ℕ) → q < rows → DirectRow conflict h q linked → Marks (DependsSoFar conflict h q) dep → ClosedRow conflict h q m → ClosedRow conflict h q v
+            more : (conflict : ℕ → ℕ → ℕ → ℕ → Bool) (h : List ℕ) (q : ℕ) → q < rows → Columns (λ p. DirectlyDepends conflict h p q) linked → Marks (DependsSoFar conflict h q) dep → ClosedRow conflict h q m → ClosedRow conflict h q v
             more conflict h q i d t r = record { sound = λ c hc e. sound c hc (from c hc e); closed = λ c a hc ha e f. closed c a hc ha f (from a ha e) }
               where
                 link : DirectlyDepends conflict h p q
@@ -147,10 +140,6 @@ module _ (dep linked : List ℕ) where
 
 -- ---- one step more
 
-other-runs : (b c : Bool) → T (b && c) → T c
-other-runs true c t = t
-other-runs false c t = absurd t
-
 module _ (pairs t u dep dep′ linked m : List ℕ) (q r : ℕ) (x : Step) (hq : q < rows) (lk : x .kind < kind-limit) (f : Finds (Linked pairs r x) t linked)
     (w : RowFrom dep linked m) (j : Replaced dep dep′ q (bit-at m 0)) (e : Entered t u q r x parts) where
   module _ (runs : List (List Step)) (h : List ℕ) (eq : length h ≡ q) (ex : step-of runs r (count h r) ≡ x) (s : StepsRead (pairs-of pairs) runs h t dep) where
@@ -170,27 +159,27 @@ module _ (pairs t u dep dep′ linked m : List ℕ) (q r : ℕ) (x : Step) (hq :
     p-run p i = front h (r ∷ []) p i .runs
 
     -- the steps at an earlier place and at q
-    conflict-is : (p : ℕ) → p < length h → c (run l p) (ordinal l p) (run l q) (ordinal l q) ≡ (not (eqb (run h p) r) && steps-conflict (pairs-of pairs) (step-at runs h p) x)
+    conflict-is : (p : ℕ) → p < length h → c (run l p) (ordinal l p) (run l q) (ordinal l q) ≡ (not (eqb (run h p) r) && steps-conflict (pairs-of pairs) (done-step runs h p) x)
     unfolding conflict
     conflict-is p i = rw (front-step runs h r p i, ← eq, last-step runs h r, ex, p-run p i, last-run runs h r)
 
-    direct-row : DirectRow c l q linked
-    direct-row = record { sound = λ p hp b. sound p (f .sound runs h (s .catalogued) p hp b .inside) (f .sound runs h (s .catalogued) p hp b .holds) (ℕ-discrete (run h p) r); complete = complete }
+    linked-directly : Columns (λ p. DirectlyDepends c l p q) linked
+    linked-directly = record { sound = λ p hp b. sound p (f .columns runs h (s .catalogued) .sound p hp b .inside) (f .columns runs h (s .catalogued) .sound p hp b .holds) (ℕ-discrete (run h p) r); complete = complete }
       where
-        sound : (p : ℕ) → p < length h → Linked pairs r x (run h p) (step-at runs h p) → Dec (run h p ≡ r) → DirectlyDepends c l p q
+        sound : (p : ℕ) → p < length h → Linked pairs r x (run h p) (done-step runs h p) → Dec (run h p ≡ r) → DirectlyDepends c l p q
         sound p i a (yes z) = record { before = omega arith; inside = omega (arith, longer); linked = inl (p-run p i ∙ z ∙ sym q-run) }
         sound p i (inl z) (no n) = absurd (n z)
         sound p i (inr b) (no n) = record { before = omega arith; inside = omega (arith, longer); linked = inr (rw (conflict-is p i, ne-eqb (run h p) r n) b) }
 
         complete : (p : ℕ) → p < row-bits → DirectlyDepends c l p q → bit-at linked 0 p ≡ 1
-        complete p hp d = f .complete runs h (s .catalogued) p hp (record { inside = i; holds = link (d .linked) })
+        complete p hp d = f .columns runs h (s .catalogued) .complete p hp (record { inside = i; holds = link (d .linked) })
           where
             i : p < length h
             i = omega (arith, d .before)
 
-            link : (run l p ≡ run l q) ⊎ Conflicting c l p q → Linked pairs r x (run h p) (step-at runs h p)
+            link : (run l p ≡ run l q) ⊎ Conflicting c l p q → Linked pairs r x (run h p) (done-step runs h p)
             link (inl z) = inl (sym (p-run p i) ∙ z ∙ q-run)
-            link (inr b) = inr (other-runs (not (eqb (run h p) r)) (steps-conflict (pairs-of pairs) (step-at runs h p) x) (rw (conflict-is p i) at b))
+            link (inr b) = inr (second-of (not (eqb (run h p) r)) (steps-conflict (pairs-of pairs) (done-step runs h p) x) (rw (conflict-is p i) at b))
 
     before : Marks (DependsSoFar c l q) dep
     before = record {
@@ -198,8 +187,8 @@ module _ (pairs t u dep dep′ linked m : List ℕ) (q r : ℕ) (x : Step) (hq :
       complete = λ a y ha hy d. s .so-far .complete a y ha hy (depends-front c h (r ∷ []) (omega (arith, d .so-far)) (d .depends));
     }
 
-    row-is : DependenceRow c l q m
-    row-is = w .row c l q hq direct-row before
+    row-is : Columns (λ p. Depends c l p q) m
+    row-is = w .row c l q hq linked-directly before
 
     so-far : Marks (Depends c l) dep′
     so-far = record { sound = λ a y ha hy b. sound a y ha hy b (ℕ-discrete y q); complete = λ a y ha hy d. complete a y ha hy d (ℕ-discrete y q) }

@@ -1,6 +1,7 @@
 -- The laws that the proofs of `graph` and of its users cite.
 --   Counting        what a history's numbers are, what a flag chooses
---   Flags           flags and the list of their indices
+--   Flags           the test of a listed pair by its flags
+--   Rows            a row of bits joined with others, or kept within them
 --   Catalogue       the places that the catalogue finds, and one step more
 --   DependenceRows  one row of the dependence table from the rows before it, and one step more
 --   Steps           a history's steps in a book's table, one by one
@@ -13,6 +14,7 @@
 -- `arcs`: ArcMarks over both, with UnitSteps.
 pub mod Flags
 pub mod Counting
+pub mod Rows
 pub mod Catalogue
 pub mod DependenceRows
 pub mod Steps

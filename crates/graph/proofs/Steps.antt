@@ -19,7 +19,7 @@ use Rattle.theory.proofs.Lists.{count-take-lt, count-take-ne, count-take-le, ta
 use Rattle.theory.specs.Deck.{Step, step-of}
 use Rattle.graph.specs.Dependence.{Blank, StepsRead, StepRead}
 use Rattle.graph.specs.inner.Tables.{Small, HistoryOf, Starts, StepsRoom, StepsOf, step-in, StepAt}
-use Rattle.graph.specs.inner.Reading.{HistoryRead}
+use Rattle.graph.specs.inner.Reading.{ReadFromCodes}
 use Rattle.graph.proofs.Counting.{low, below-next, history-length, history-run}
 use Rattle.graph.proofs.DependenceRows.{none-read}
 
@@ -50,20 +50,20 @@ module _ (lengths t : List ℕ) (s r : ℕ) (w : StartsBelow lengths t s r) wher
 -- ---- step by step
 
 -- next has the step of each run that comes after its steps at the places below p
-pub record Passed (h starts next : List ℕ) (p : ℕ) : Type 0 where
+pub record NextSteps (h starts next : List ℕ) (p : ℕ) : Type 0 where
   pub at : (r : ℕ) → r < run-limit → getD next r 0 ≡ getD starts r 0 + count (take p h) r
 
 -- before each turn: next, and the tables after the first q steps
 pub record ReadUpTo (pairs h starts steps next catalogue dep : List ℕ) (n q : ℕ) : Type 0 where
   pub within : q ≤ n
-  pub passed : Passed h starts next q
+  pub next-are : NextSteps h starts next q
   pub read : (runs : List (List Step)) → StepsOf runs h starts steps → StepsRead (pairs-of pairs) runs (take q h) catalogue dep
 
 pub read-none : (pairs h starts steps catalogue dep : List ℕ) (n : ℕ) → Blank catalogue → Blank dep → ReadUpTo pairs h starts steps starts catalogue dep n 0
-read-none pairs h starts steps catalogue dep n b d = record { within = omega arith; passed = record { at = λ r i. omega arith }; read = λ runs s. none-read (pairs-of pairs) runs catalogue dep b d }
+read-none pairs h starts steps catalogue dep n b d = record { within = omega arith; next-are = record { at = λ r i. omega arith }; read = λ runs s. none-read (pairs-of pairs) runs catalogue dep b d }
 
 pub read-all : (pairs history starts steps next catalogue dep : List ℕ) (n q : ℕ) → ReadUpTo pairs (take n history) starts steps next catalogue dep n q → n ≤ q
-    → HistoryRead pairs (take n history) starts steps catalogue dep
+    → ReadFromCodes pairs (take n history) starts steps catalogue dep
 read-all pairs history starts steps next catalogue dep n q w l =
     let e : q ≡ n = omega (arith, w .within) in
     record { read = λ runs s. rw (e, take-take n n history (omega arith)) at (w .read runs s) }
@@ -84,7 +84,7 @@ module _ (pairs history starts steps next catalogue dep : List ℕ) (n q : ℕ) 
   small = rw er (hs .runs .small q)
 
   is-step : c ≡ getD starts r 0 + count (take q (take n history)) r
-  is-step = ec ∙ w .passed .at r small
+  is-step = ec ∙ w .next-are .at r small
 
   counted : count (take (suc q) (take n history)) r ≡ suc (count (take q (take n history)) r)
   counted = sym (count-take-lt (take n history) r q inside is-run)
@@ -104,7 +104,7 @@ module _ (pairs history starts steps next catalogue dep : List ℕ) (n q : ℕ) 
     unfolding ordinal
     read-more x catalogue′ dep′ ex ln t = record {
       within = omega arith;
-      passed = record { at = λ k hk. rw (add-one q) (passed-at k hk (ℕ-discrete k r)) };
+      next-are = record { at = λ k hk. rw (add-one q) (next-at k hk (ℕ-discrete k r)) };
       read = λ runs o. rw (next-taken (take n history) q inside, is-run) (t .read runs (take q (take n history)) long (is-next runs o) (w .read runs o));
     }
       where
@@ -114,9 +114,9 @@ module _ (pairs history starts steps next catalogue dep : List ℕ) (n q : ℕ) 
         is-next : (runs : List (List Step)) → StepsOf runs (take n history) starts steps → step-of runs r (count (take q (take n history)) r) ≡ as-step x
         is-next runs o = (rw is-run at (o .at q inside)) ∙ ap (step-in steps) (sym is-step ∙ sym es) ∙ sym (ex .is)
 
-        passed-at : (k : ℕ) → k < run-limit → Dec (k ≡ r) → getD (set next r (c + 1)) k 0 ≡ getD starts k 0 + count (take (suc q) (take n history)) k
-        passed-at k hk (yes e) = rw e (getD-set-same next r (c + 1) 0 (omega (arith, small)) ∙ omega (arith, is-step, counted))
-        passed-at k hk (no m) = getD-set-other next r k (c + 1) 0 m ∙ w .passed .at k hk ∙ ap (λ (x : ℕ). getD starts k 0 + x) (sym (count-take-ne (take n history) k q (λ e. m (sym e ∙ is-run))))
+        next-at : (k : ℕ) → k < run-limit → Dec (k ≡ r) → getD (set next r (c + 1)) k 0 ≡ getD starts k 0 + count (take (suc q) (take n history)) k
+        next-at k hk (yes e) = rw e (getD-set-same next r (c + 1) 0 (omega (arith, small)) ∙ omega (arith, is-step, counted))
+        next-at k hk (no m) = getD-set-other next r k (c + 1) 0 m ∙ w .next-are .at k hk ∙ ap (λ (x : ℕ). getD starts k 0 + x) (sym (count-take-ne (take n history) k q (λ e. m (sym e ∙ is-run))))
 
 -- ---- the step of a code
 

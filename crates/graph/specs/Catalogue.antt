@@ -23,16 +23,29 @@ part r x (suc (suc (suc (suc zero)))) = x .kind
 part r x (suc (suc (suc (suc (suc zero))))) = r
 part r x (suc (suc (suc (suc (suc (suc k)))))) = base
 
--- the step at place p of h
-abbrev pub step-at : List (List Step) → List ℕ → ℕ → Step
-step-at runs h p = step-of runs (run h p) (ordinal h p)
+-- the digits are the first parts; the numbers of the two others, and how many parts there are
+abbrev pub digit-parts : ℕ
+digit-parts = 4
+
+abbrev pub kind-part : ℕ
+kind-part = 4
+
+abbrev pub run-part : ℕ
+run-part = 5
+
+abbrev pub parts : ℕ
+parts = 6
+
+-- the step that is done at place p of h
+abbrev pub done-step : List (List Step) → List ℕ → ℕ → Step
+done-step runs h p = step-of runs (run h p) (ordinal h p)
 
 -- row y of the catalogue has place p: row k * base + v has the places of h whose part k is v
 pub record PartIs (runs : List (List Step)) (h : List ℕ) (p y : ℕ) : Type 0 where
   pub inside : p < length h
-  pub is : part (run h p) (step-at runs h p) (y / base) ≡ y % base
+  pub is : part (run h p) (done-step runs h p) (y / base) ≡ y % base
 
 -- the catalogue is that of h, whose kinds are in range
 pub record Catalogued (runs : List (List Step)) (h catalogue : List ℕ) : Type 0 where
   pub marks : Marks (PartIs runs h) catalogue
-  pub kinds : (p : ℕ) → p < length h → step-at runs h p .kind < kind-limit
+  pub kinds : (p : ℕ) → p < length h → done-step runs h p .kind < kind-limit

@@ -17,8 +17,9 @@ ghost use Rattle.book.specs.Book.{code-limit, as-step, pairs-of, Valid, content
 ghost use Rattle.book.specs.Meaning.{conflict-of, unit-of};
 ghost use Rattle.graph.specs.Marks.{Marks};
 ghost use Rattle.graph.specs.Units.{units-size, UnchangedFrom, UnitTables};
+ghost use Rattle.graph.specs.Catalogue.{digit-parts, parts};
 ghost use Rattle.graph.specs.Dependence.{Blank, StepsRead, StepRead};
-ghost use Rattle.graph.specs.inner.Reading.{digit-parts, parts, PartRow, Entered, Finds, Paired, KindAdded, PairedAt, Linked, RowFrom, HistoryRead};
+ghost use Rattle.graph.specs.inner.Reading.{PartRow, Entered, Finds, Paired, KindAdded, PairedAt, Linked, RowFrom, ReadFromCodes};
 ghost use Rattle.graph.specs.inner.Tables.{places-size, Small, HistoryOf, Declared, NumberAt, StepAt, Starts, StepsRoom, Numbering, Counts, EachBy, RowRoom, RowSet, by-flag, copied-row};
 ghost use Rattle.graph.specs.inner.Arcs.{ArcOf, ArcOfPlaces, RunRows, TablesOf, GainedBy, ArcRows, ArcInput, Rowed};
 ghost use Rattle.bits.specs.Table.{bit-at, intersection};
@@ -179,7 +180,7 @@ fn conflicting(pairs: &[u8; Book::PAIRS_SIZE], catalogue: &Table, r: usize, x: S
 }
 
 // The places on which a step x of run r directly depends: those that it conflicts with, and those of its run.
-fn direct_row(pairs: &[u8; Book::PAIRS_SIZE], catalogue: &Table, r: usize, x: Step) -> Row
+fn linked_row(pairs: &[u8; Book::PAIRS_SIZE], catalogue: &Table, r: usize, x: Step) -> Row
     requires { ⌜ (r < run-limit) × (x .kind < kind-limit) ⌝ }
     ensures { λ m. ⌜ Finds (Linked (now (pairs .entry)) r (as-step x)) (now (catalogue .entry)) m ⌝ }
 {
@@ -222,9 +223,9 @@ pub fn read_step(
     requires { ⌜ (q < step-limit) × (r < run-limit) × (x .kind < kind-limit) ⌝ }
     ensures { λ _. ⌜ StepRead (now (pairs .entry)) (now (catalogue .entry)) (now (catalogue .exit)) (now (dep .entry)) (now (dep .exit)) q r (as-step x) ⌝ }
 {
-    let linked = direct_row(pairs, catalogue, r, x);
+    let linked = linked_row(pairs, catalogue, r, x);
     let row = dependence_row(dep, &linked);
-    bits::set_row(dep, q, &row);
+    bits::replace_row(dep, q, &row);
     enter(catalogue, q, r, x);
 }
 
@@ -239,7 +240,7 @@ fn read_steps(
     dep: &mut Table,
 )
     requires { ⌜ HistoryOf (now history) n × StepsRoom (take n (now history)) (now next) × Small code-limit (now steps) × Blank (now catalogue) × Blank (now dep) ⌝ }
-    ensures { λ _. ⌜ HistoryRead (now (pairs .entry)) (take n (now (history .entry))) (now (next .entry)) (now (steps .entry)) (now (catalogue .exit)) (now (dep .exit)) ⌝ }
+    ensures { λ _. ⌜ ReadFromCodes (now (pairs .entry)) (take n (now (history .entry))) (now (next .entry)) (now (steps .entry)) (now (catalogue .exit)) (now (dep .exit)) ⌝ }
 {
     let mut q = 0;
     while q < n {
@@ -254,7 +255,7 @@ fn read_steps(
 }
 
 // Reads the book's history, step by step, into tables that mark nothing yet.
-pub fn read_history(b: Book, catalogue: &mut Table, dep: &mut Table)
+fn read_history(b: Book, catalogue: &mut Table, dep: &mut Table)
     requires { ⌜ Valid b × Blank (now catalogue) × Blank (now dep) ⌝ }
     ensures { λ _. ⌜ StepsRead (contents-of b .pairs) (contents-of b .runs) (contents-of b .history) (now (catalogue .exit)) (now (dep .exit)) ⌝ }
 {

@@ -1,4 +1,4 @@
--- The words are searched from the last down: before each turn no later word has a column of m outside o.
+-- The words are searched from the last down: before each turn no later word has a column of m outside the mask.
 use Prim.Native.Nat.{_-_, min}
 use native.Mathlib.Omega.{arith}
 use Rattle.bits.specs.Table.{bit-at, difference}
@@ -9,10 +9,10 @@ use Rattle.bits.proofs.last_outside.Statement.{statement}
 use Rattle.bits.proofs.last_outside.Tie as tie
 
 abbrev Inv-loop : tie.InvT-loop
-Inv-loop m o k₀ k = NoneAbove (difference (bit-at m 0) (bit-at o 0)) k
+Inv-loop m mask k₀ k = NoneAbove (difference (bit-at m 0) (bit-at mask 0)) k
 
 abbrev μ-loop : tie.MeasureT-loop
-μ-loop m o k₀ k = k
+μ-loop m mask k₀ k = k
 
 loop-holds : tie.Need-loop-holds Inv-loop μ-loop
 loop-holds c = none-above-start _

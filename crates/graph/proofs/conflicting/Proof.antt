@@ -1,7 +1,8 @@
 -- Each turn keeps the places that have one more digit of the position.
 use Prim.Native.Nat.{_≤_, _-_}
 use Rattle.book.specs.Book.{as-step}
-use Rattle.graph.specs.inner.Reading.{digit-parts, Finds, PairedAt}
+use Rattle.graph.specs.Catalogue.{digit-parts}
+use Rattle.graph.specs.inner.Reading.{Finds, PairedAt}
 use Rattle.graph.proofs.Catalogue.{at-none, at-keep, at-all}
 use borrow.Author.Needs.{needs}
 use Rattle.graph.proofs.conflicting.Statement.{statement}

@@ -1,5 +1,5 @@
 -- Before each turn the row has taken the places of `linked` from `end` on, each with all that it depends on.
-use Rattle.graph.proofs.DependenceRows.{RowTaken, row-none, row-place, row-less, row-more, row-full, row-end}
+use Rattle.graph.proofs.DependenceRows.{RowTaken, closure-none, closure-place, closure-less, closure-more, closure-full, closure-end}
 use borrow.Author.Needs.{needs}
 use Rattle.graph.proofs.dependence_row.Statement.{statement}
 use Rattle.graph.proofs.dependence_row.Tie as tie
@@ -11,7 +11,7 @@ abbrev μ-loop : tie.MeasureT-loop
 μ-loop dep linked m₀ end₀ m end = end
 
 loop-holds : tie.Need-loop-holds Inv-loop μ-loop
-loop-holds c = search row-none
+loop-holds c = search closure-none
 
 last-outside-requires : tie.Need-last-outside-requires Inv-loop μ-loop
 last-outside-requires c κs = search needs
@@ -20,25 +20,25 @@ enum-known-p : tie.Need-enum-known-p Inv-loop μ-loop
 enum-known-p c = search needs
 
 add-row-requires : tie.Need-add-row-requires Inv-loop μ-loop
-add-row-requires c κs = search (needs, row-place)
+add-row-requires c κs = search (needs, closure-place)
 
 add-requires : tie.Need-add-requires Inv-loop μ-loop
-add-requires c κs = search (needs, row-place)
+add-requires c κs = search (needs, closure-place)
 
 loop-less : tie.Need-loop-less Inv-loop μ-loop
-loop-less c = search row-less
+loop-less c = search closure-less
 
 loop-again : tie.Need-loop-again Inv-loop μ-loop
-loop-again c = search row-more
+loop-again c = search closure-more
 
 enum-told : tie.Need-enum-told Inv-loop μ-loop
 enum-told c = search needs
 
 returns : tie.Need-returns Inv-loop μ-loop
-returns c = search row-full
+returns c = search closure-full
 
 returns-2 : tie.Need-returns-2 Inv-loop μ-loop
-returns-2 c = search row-end
+returns-2 c = search closure-end
 
 pub dependence-row-spec : {M : Type 1} → statement M
 dependence-row-spec =

@@ -1,7 +1,8 @@
 -- Each turn marks the place in the row of one more part.
 use Prim.Native.Nat.{_≤_, _-_}
 use Rattle.book.specs.Book.{as-step}
-use Rattle.graph.specs.inner.Reading.{parts, Entered}
+use Rattle.graph.specs.Catalogue.{parts}
+use Rattle.graph.specs.inner.Reading.{Entered}
 use Rattle.graph.proofs.Catalogue.{entered-none, entered-more, entered-all}
 use borrow.Author.Needs.{needs}
 use Rattle.graph.proofs.enter.Statement.{statement}

@@ -1,17 +1,17 @@
--- The direct row is that of the place read, its closure over the rows before it is the dependence row, and the catalogue has one step more.
+-- The linked places are those on which the place read directly depends, with what they depend on they are its dependence row, and the catalogue has one step more.
 use Rattle.graph.proofs.DependenceRows.{step-read}
 use borrow.Author.Needs.{needs}
 use Rattle.graph.proofs.read_step.Statement.{statement}
 use Rattle.graph.proofs.read_step.Tie as tie
 
-direct-row-requires : tie.Need-direct-row-requires
-direct-row-requires c κs = search needs
+linked-row-requires : tie.Need-linked-row-requires
+linked-row-requires c κs = search needs
 
 dependence-row-requires : tie.Need-dependence-row-requires
 dependence-row-requires c κs = search needs
 
-set-row-requires : tie.Need-set-row-requires
-set-row-requires c κs = search needs
+replace-row-requires : tie.Need-replace-row-requires
+replace-row-requires c κs = search needs
 
 enter-requires : tie.Need-enter-requires
 enter-requires c κs = search needs
@@ -22,4 +22,4 @@ returns c = search step-read
 pub read-step-spec : {M : Type 1} → statement M
 read-step-spec =
     tie.close
-    (tie.spec direct-row-requires dependence-row-requires set-row-requires enter-requires returns)
+    (tie.spec linked-row-requires dependence-row-requires replace-row-requires enter-requires returns)

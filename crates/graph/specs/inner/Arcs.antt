@@ -10,11 +10,10 @@ use Rattle.theory.specs.History.{run}
 use Rattle.theory.specs.Relative.{Depends}
 use Rattle.theory.specs.Graph.{FirstOf, LastOf, ArcI, ArcD, Arc}
 use Rattle.book.specs.Format.{run-limit}
-use Rattle.graph.specs.Marks.{Marks}
+use Rattle.graph.specs.Marks.{Marks, Columns}
 use Rattle.graph.specs.Units.{Firsts, Lasts}
-use Rattle.graph.specs.Catalogue.{base}
+use Rattle.graph.specs.Catalogue.{base, run-part}
 use Rattle.graph.specs.inner.Tables.{HistoryOf}
-use Rattle.graph.specs.inner.Reading.{run-part}
 
 -- u is t with the bits that H tells
 pub record Gained (H : ℕ → ℕ → Type 0) (t u : List ℕ) : Type 0 where
@@ -53,11 +52,6 @@ pub record RunRows (h : List ℕ) (n : ℕ) (catalogue : List ℕ) : Type 0 wher
   pub sound : (p r : ℕ) → p < row-bits → r < run-limit → bit-at catalogue (run-part * base + r) p ≡ 1 → InRun h n p r
   pub complete : (p r : ℕ) → p < row-bits → r < run-limit → InRun h n p r → bit-at catalogue (run-part * base + r) p ≡ 1
 
--- the columns of the mask are the places of run r
-pub record Mask (h : List ℕ) (n r : ℕ) (mask : List ℕ) : Type 0 where
-  pub sound : (p : ℕ) → p < row-bits → bit-at mask 0 p ≡ 1 → InRun h n p r
-  pub complete : (p : ℕ) → p < row-bits → InRun h n p r → bit-at mask 0 p ≡ 1
-
 -- the tables are those of h, with some conflict and units
 pub record TablesOf (h dep firsts lasts : List ℕ) : Type 0 where
   pub conflict : ℕ → ℕ → ℕ → ℕ → Bool
@@ -80,7 +74,7 @@ pub record ArcRows (h dep firsts lasts arc : List ℕ) : Type 0 where
 pub record ArcInput (history : List ℕ) (n : ℕ) (dep firsts lasts mask : List ℕ) (r : ℕ) : Type 0 where
   pub stored : HistoryOf history n
   pub tables : TablesOf (take n history) dep firsts lasts
-  pub mask-is : Mask (take n history) n r mask
+  pub mask-is : Columns (λ p. InRun (take n history) n p r) mask
   pub small : r < run-limit
 
 -- the rows of the places below n hold places

@@ -12,23 +12,10 @@ use Rattle.theory.specs.Deck.{Step, listed, steps-conflict}
 use Rattle.theory.specs.Relative.{DirectlyDepends, Depends}
 use Rattle.book.specs.Format.{kind-limit}
 use Rattle.book.specs.Book.{pairs-of}
-use Rattle.graph.specs.Marks.{Marks}
-use Rattle.graph.specs.Catalogue.{base, part, step-at, Catalogued}
+use Rattle.graph.specs.Marks.{Marks, Columns}
+use Rattle.graph.specs.Catalogue.{base, part, done-step, Catalogued}
 use Rattle.graph.specs.Dependence.{StepsRead}
 use Rattle.graph.specs.inner.Tables.{StepsOf}
-
--- how many parts a step has; the first of them are the digits of its position, then come its kind and its run
-abbrev pub digit-parts : ℕ
-digit-parts = 4
-
-abbrev pub kind-part : ℕ
-kind-part = 4
-
-abbrev pub run-part : ℕ
-run-part = 5
-
-abbrev pub parts : ℕ
-parts = 6
 
 -- the row of part k of a step x of run r
 pub record PartRow (r : ℕ) (x : Step) (k row : ℕ) : Type 0 where
@@ -44,12 +31,11 @@ pub record Entered (t u : List ℕ) (q r : ℕ) (x : Step) (m : ℕ) : Type 0 wh
 -- place p of h has a run and a step of which P holds
 pub record Has (P : ℕ → Step → Type 0) (runs : List (List Step)) (h : List ℕ) (p : ℕ) : Type 0 where
   pub inside : p < length h
-  pub holds : P (run h p) (step-at runs h p)
+  pub holds : P (run h p) (done-step runs h p)
 
 -- the columns of m are those places, of any history whose catalogue this is
 pub record Finds (P : ℕ → Step → Type 0) (catalogue m : List ℕ) : Type 0 where
-  pub sound : (runs : List (List Step)) (h : List ℕ) → Catalogued runs h catalogue → (p : ℕ) → p < row-bits → bit-at m 0 p ≡ 1 → Has P runs h p
-  pub complete : (runs : List (List Step)) (h : List ℕ) → Catalogued runs h catalogue → (p : ℕ) → p < row-bits → Has P runs h p → bit-at m 0 p ≡ 1
+  pub columns : (runs : List (List Step)) (h : List ℕ) → Catalogued runs h catalogue → Columns (Has P runs h) m
 
 -- the kind of y is below m, and paired with this one
 pub record Paired (pairs : List ℕ) (kind m r : ℕ) (y : Step) : Type 0 where
@@ -76,22 +62,13 @@ pub record DependsSoFar (conflict : ℕ → ℕ → ℕ → ℕ → Bool) (h : L
   pub so-far : y < q
   pub depends : Depends conflict h x y
 
--- the columns of m are the places on which place q directly depends
-pub record DirectRow (conflict : ℕ → ℕ → ℕ → ℕ → Bool) (h : List ℕ) (q : ℕ) (m : List ℕ) : Type 0 where
-  pub sound : (p : ℕ) → p < row-bits → bit-at m 0 p ≡ 1 → DirectlyDepends conflict h p q
-  pub complete : (p : ℕ) → p < row-bits → DirectlyDepends conflict h p q → bit-at m 0 p ≡ 1
-
--- the columns of m are the places on which place q depends
-pub record DependenceRow (conflict : ℕ → ℕ → ℕ → ℕ → Bool) (h : List ℕ) (q : ℕ) (m : List ℕ) : Type 0 where
-  pub sound : (p : ℕ) → p < row-bits → bit-at m 0 p ≡ 1 → Depends conflict h p q
-  pub complete : (p : ℕ) → p < row-bits → Depends conflict h p q → bit-at m 0 p ≡ 1
-
--- m is the dependence row of any place q, of any history, whose direct row this is and whose earlier rows these are
+-- m has the places on which place q depends, of any history on which it directly depends on the linked places, and whose earlier rows these are
 pub record RowFrom (dep linked m : List ℕ) : Type 0 where
-  pub row : (conflict : ℕ → ℕ → ℕ → ℕ → Bool) (h : List ℕ) (q : ℕ) → q < rows → DirectRow conflict h q linked → Marks (DependsSoFar conflict h q) dep → DependenceRow conflict h q m
+  pub row : (conflict : ℕ → ℕ → ℕ → ℕ → Bool) (h : List ℕ) (q : ℕ) → q < rows → Columns (λ p. DirectlyDepends conflict h p q) linked → Marks (DependsSoFar conflict h q) dep
+      → Columns (λ p. Depends conflict h p q) m
 
 -- ---- the rows of a history
 
--- the tables are those of h, for any runs whose steps these are
-pub record HistoryRead (pairs h starts steps catalogue dep : List ℕ) : Type 0 where
+-- the tables are those after the steps of h, for any runs whose steps have these codes
+pub record ReadFromCodes (pairs h starts steps catalogue dep : List ℕ) : Type 0 where
   pub read : (runs : List (List Step)) → StepsOf runs h starts steps → StepsRead (pairs-of pairs) runs h catalogue dep

@@ -6,8 +6,8 @@ use lib.ListN.{length}
 use Rattle.bits.specs.Table.{row-words, table-words, bit-at}
 use Rattle.bits.proofs.Store.{ReplacedUpTo, replaced-none, replaced-all, copied-more}
 use borrow.Author.Needs.{needs}
-use Rattle.bits.proofs.set_row.Statement.{statement}
-use Rattle.bits.proofs.set_row.Tie as tie
+use Rattle.bits.proofs.replace_row.Statement.{statement}
+use Rattle.bits.proofs.replace_row.Tie as tie
 
 abbrev Inv-loop : tie.InvT-loop
 Inv-loop t₀ row m k₀ t k = (length t₀ ≡ table-words) × ReplacedUpTo t₀ t row (bit-at m 0) k
@@ -56,8 +56,8 @@ loop-again c =
 returns : tie.Need-returns Inv-loop μ-loop
 returns c = replaced-all (omega arith) (c .before .loop .inv .1)
 
-pub set-row-spec : {M : Type 1} → statement M
-set-row-spec =
+pub replace-row-spec : {M : Type 1} → statement M
+replace-row-spec =
     tie.close
     (tie.spec
     Inv-loop

@@ -1,8 +1,8 @@
 -- The row of the run is added to the places that the step conflicts with.
 use Rattle.graph.proofs.Catalogue.{linked-all}
 use borrow.Author.Needs.{needs}
-use Rattle.graph.proofs.direct_row.Statement.{statement}
-use Rattle.graph.proofs.direct_row.Tie as tie
+use Rattle.graph.proofs.linked_row.Statement.{statement}
+use Rattle.graph.proofs.linked_row.Tie as tie
 
 conflicting-requires : tie.Need-conflicting-requires
 conflicting-requires c κs = search needs
@@ -16,6 +16,6 @@ add-row-requires c κs = search needs
 returns : tie.Need-returns
 returns c = search linked-all
 
-pub direct-row-spec : {M : Type 1} → statement M
-direct-row-spec =
+pub linked-row-spec : {M : Type 1} → statement M
+linked-row-spec =
     tie.close (tie.spec conflicting-requires part-row-requires add-row-requires returns)
