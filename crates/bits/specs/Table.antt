@@ -44,7 +44,7 @@ pub record Marked (t u : List ℕ) (row col : ℕ) : Type 0 where
   pub here : bit-at u row col ≡ 1
   pub other : (r c : ℕ) → c < row-bits → ((r ≡ row) × (c ≡ col) → ⊥) → bit-at u r c ≡ bit-at t r c
 
--- u is t with the columns f as its row dst, every other row as it was, and every word of another row as it was
+-- u is t with the columns f as its row dst, and every other row as it was, in its bits and in its words
 pub record Replaced (t u : List ℕ) (dst : ℕ) (f : ℕ → ℕ) : Type 0 where
   pub here : (c : ℕ) → c < row-bits → bit-at u dst c ≡ f c
   pub other : (r c : ℕ) → c < row-bits → (r ≡ dst → ⊥) → bit-at u r c ≡ bit-at t r c

@@ -1,5 +1,5 @@
--- The demands, that the classes are nested, and the one pass over a history, of what the functions of this crate return: the results of the public calls, or
--- answers as these promise them.
+-- The demands, that the classes are nested, and the one pass over a history, of what the functions of this crate return or leave in the tables lent to
+-- them: the results of the public calls, or answers as these promise them.
 use Prim.Native.Nat.{ℕ, _*_, _/_, _≤_, _<_}
 use mathlib.Core.Path.{_≡_}
 use mathlib.Core.Bool.{true}

@@ -81,17 +81,17 @@ gained-mark t u row col s = record {
     keeps-at x y hx e (yes a) (no b) = s .other y x hx (λ k. b (k .0)) ∙ e
 
 -- the columns of f in the row
-abbrev Columns : ℕ → (ℕ → ℕ) → ℕ → ℕ → Type 0
-Columns row f x y = (f x ≡ 1) × (y ≡ row)
+abbrev InRow : ℕ → (ℕ → ℕ) → ℕ → ℕ → Type 0
+InRow row f x y = (f x ≡ 1) × (y ≡ row)
 
-gained-join : (t u : List ℕ) (row : ℕ) (f : ℕ → ℕ) → ((c : ℕ) → f c < 2) → Replaced t u row (union (bit-at t row) f) → Gained (Columns row f) t u
+gained-join : (t u : List ℕ) (row : ℕ) (f : ℕ → ℕ) → ((c : ℕ) → f c < 2) → Replaced t u row (union (bit-at t row) f) → Gained (InRow row f) t u
 gained-join t u row f small s = record {
   sound = λ x y hx hy e. sound-at x y hx e (ℕ-discrete y row) (ℕ-discrete (f x) 1);
   keeps = λ x y hx hy e. keeps-at x y hx e (ℕ-discrete y row);
   gains = λ x y hx hy k. rw (k .1) (s .here x hx ∙ omega (arith, k .0, bit-at-lt t row x));
 }
   where
-    sound-at : (x y : ℕ) → x < row-bits → bit-at u y x ≡ 1 → Dec (y ≡ row) → Dec (f x ≡ 1) → (bit-at t y x ≡ 1) ⊎ Columns row f x y
+    sound-at : (x y : ℕ) → x < row-bits → bit-at u y x ≡ 1 → Dec (y ≡ row) → Dec (f x ≡ 1) → (bit-at t y x ≡ 1) ⊎ InRow row f x y
     sound-at x y hx e (no a) d = inl (sym (s .other y x hx a) ∙ e)
     sound-at x y hx e (yes a) (yes b) = inr (b, a)
     sound-at x y hx e (yes a) (no b) =
@@ -184,7 +184,7 @@ module _ (history : List ℕ) (n : ℕ) (dep firsts lasts mask : List ℕ) (r q 
         arc-of x hx k = let z = source-sound x hx k in (z .0, record { other = λ c. ne (sym (z .0) ∙ c ∙ es); depends = z .1 })
 
         abbrev Across : ℕ → ℕ → Type 0
-        Across x y = Spot q e x y ⊎ (Columns q sources x y ⊎ Columns f sources x y)
+        Across x y = Spot q e x y ⊎ (InRow q sources x y ⊎ InRow f sources x y)
 
         from : (x y : ℕ) → ArcOf (a .conflict) (a .unit) (take n history) r q x y → Across x y
         from x y (by-I g i z) = absurd (ne (sym g ∙ i .runs ∙ es))
@@ -210,8 +210,8 @@ module _ (history : List ℕ) (n : ℕ) (dep firsts lasts mask : List ℕ) (r q 
             (gained-more Across (gained-mark t u q e m) both (λ x y hx c. inl c) (λ x y hx c. inr c) (λ x y c. c))
             to from
           where
-            both : Gained (λ x y. Columns q sources x y ⊎ Columns f sources x y) u x
-            both = gained-more (λ x y. Columns q sources x y ⊎ Columns f sources x y) (gained-join u v q sources sources-lt j) (gained-join v x f sources sources-lt k) (λ x y hx c. inl c) (λ x y hx c. inr c) (λ x y c. c)
+            both : Gained (λ x y. InRow q sources x y ⊎ InRow f sources x y) u x
+            both = gained-more (λ x y. InRow q sources x y ⊎ InRow f sources x y) (gained-join u v q sources sources-lt j) (gained-join v x f sources sources-lt k) (λ x y hx c. inl c) (λ x y hx c. inr c) (λ x y c. c)
 
   -- ---- as the functions have it
 

@@ -25,7 +25,7 @@ use Rattle.theory.specs.Deck.{Step, Cut, step-of, conflict, unit}
 use Rattle.theory.proofs.Places.{Compared, eq-cases, ordinal-lt}
 use Rattle.graph.specs.Marks.{Marks}
 use Rattle.graph.specs.Units.{UnchangedFrom, UnitTables}
-use Rattle.graph.specs.inner.Tables.{Small, HistoryOf, Declared, Starts, StepsRoom, step-in, Counts, CutsOf, EachBy}
+use Rattle.graph.specs.inner.Tables.{Small, HistoryOf, Declared, RunsRoom, step-in, Counts, CutsOf, EachBy}
 use Rattle.graph.specs.Dependence.{StepsRead}
 use Rattle.graph.specs.inner.Reading.{ReadFromCodes}
 use Rattle.graph.specs.inner.Arcs.{RunRows, TablesOf, ArcRows}
@@ -111,9 +111,6 @@ module _ (b : Book) (v : Valid b) where
   abbrev ls : List ℕ
   ls = take (b .declared) (b .lengths)
 
-  pub book-sum : sum (b .lengths) ≤ step-limit
-  book-sum = omega (arith, sum-front (b .declared) (b .lengths) (v .runs .lengths .blank), v .runs .total, v .runs .few-steps)
-
   pub book-counts : (r : ℕ) → count h r ≤ getD (b .lengths) r 0
   book-counts r = omega (arith, v .history .counts r, v .history .within r)
 
@@ -128,8 +125,8 @@ module _ (b : Book) (v : Valid b) where
   pub book-steps : Small code-limit (b .steps)
   book-steps = record { small = v .runs .steps .small }
 
-  pub book-room : (starts : List ℕ) → Starts (b .lengths) starts → StepsRoom h starts
-  book-room starts s = record { room = λ r i hr h. omega (arith, s .are r hr, book-counts r, sum-take (b .lengths) r, sum-take-le (b .lengths) (suc r), book-sum) }
+  pub book-room : RunsRoom h (b .lengths)
+  book-room = record { total = omega (arith, sum-front (b .declared) (b .lengths) (v .runs .lengths .blank), v .runs .total, v .runs .few-steps); within = book-counts }
 
   -- the step of a place, in the contents and in the arrays
   module _ (p : ℕ) (i : p < length h) where
@@ -146,21 +143,19 @@ module _ (b : Book) (v : Valid b) where
     in-run : ordinal h p < getD ls (run h p) 0
     in-run = rw (getD-take (b .declared) (b .lengths) (run h p) 0 declared) (omega (arith, ordinal-lt h p i, book-counts (run h p)))
 
-    module _ (starts : List ℕ) (s : Starts (b .lengths) starts) where
-      start : getD starts (run h p) 0 ≡ sum (take (run h p) ls)
-      start =
-          s .are (run h p) (history-small book-history p i) ∙ ap sum (sym (take-take (run h p) (b .declared) (b .lengths) (omega (arith, declared))))
+    start : sum (take (run h p) (b .lengths)) ≡ sum (take (run h p) ls)
+    start = ap sum (sym (take-take (run h p) (b .declared) (b .lengths) (omega (arith, declared))))
 
-      in-steps : getD starts (run h p) 0 + ordinal h p < b .total
-      in-steps = omega (arith, start, in-run, sum-take ls (run h p), sum-take-le ls (suc (run h p)), v .runs .total)
+    in-steps : sum (take (run h p) (b .lengths)) + ordinal h p < b .total
+    in-steps = omega (arith, start, in-run, sum-take ls (run h p), sum-take-le ls (suc (run h p)), v .runs .total)
 
-      pub step-is : step-of (contents-of b .runs) (run h p) (ordinal h p) ≡ step-in (b .steps) (getD starts (run h p) 0 + ordinal h p)
-      unfolding contents-of
-      step-is =
-          runs-get ls (map step-coded (take (b .total) (b .steps))) (run h p) (ordinal h p) in-run
-          ∙ ap (λ (x : ℕ). getD (map step-coded (take (b .total) (b .steps))) (x + ordinal h p) no-step) (sym start)
-          ∙ List·getD-map step-coded (take (b .total) (b .steps)) (getD starts (run h p) 0 + ordinal h p) 0
-          ∙ ap step-coded (getD-take (b .total) (b .steps) (getD starts (run h p) 0 + ordinal h p) 0 in-steps)
+    pub step-is : step-of (contents-of b .runs) (run h p) (ordinal h p) ≡ step-in (b .steps) (sum (take (run h p) (b .lengths)) + ordinal h p)
+    unfolding contents-of
+    step-is =
+        runs-get ls (map step-coded (take (b .total) (b .steps))) (run h p) (ordinal h p) in-run
+        ∙ ap (λ (x : ℕ). getD (map step-coded (take (b .total) (b .steps))) (x + ordinal h p) no-step) (sym start)
+        ∙ List·getD-map step-coded (take (b .total) (b .steps)) (sum (take (run h p) (b .lengths)) + ordinal h p) 0
+        ∙ ap step-coded (getD-take (b .total) (b .steps) (sum (take (run h p) (b .lengths)) + ordinal h p) 0 in-steps)
 
   pub book-declared : Declared (b .history) (b .done) (b .declared)
   book-declared = record { few = v .runs .few-runs; declared = λ p i. rw (history-run (b .history) (b .done) p i) at (declared p (rw (history-length book-history) i)) }
@@ -186,22 +181,22 @@ module _ (b : Book) (v : Valid b) where
 
   -- ---- dependence
 
-  pub book-read : (starts catalogue dep : List ℕ) → Starts (b .lengths) starts → ReadFromCodes (b .pairs) h starts (b .steps) catalogue dep
+  unfoldable pub book-read : (catalogue dep : List ℕ) → ReadFromCodes (b .pairs) h (b .lengths) (b .steps) catalogue dep
       → StepsRead (contents-of b .pairs) (contents-of b .runs) (contents-of b .history) catalogue dep
   unfolding contents-of
-  book-read starts catalogue dep s r = r .read (contents-of b .runs) (record { at = λ p i. step-is p i starts s })
+  book-read catalogue dep r = r .read (contents-of b .runs) (record { at = step-is })
 
-  pub book-dependences : (catalogue dep : List ℕ) → StepsRead (contents-of b .pairs) (contents-of b .runs) (contents-of b .history) catalogue dep
+  pub book-dependences : (catalogue dep : List ℕ) → ReadFromCodes (b .pairs) h (b .lengths) (b .steps) catalogue dep
       → Marks (Depends (conflict-of (contents-of b)) (contents-of b .history)) dep
-  book-dependences catalogue dep s = s .so-far
+  book-dependences catalogue dep r = book-read catalogue dep r .so-far
 
-  pub book-run-rows : (catalogue dep : List ℕ) → StepsRead (contents-of b .pairs) (contents-of b .runs) (contents-of b .history) catalogue dep → RunRows h (b .done) catalogue
+  pub book-run-rows : (catalogue dep : List ℕ) → ReadFromCodes (b .pairs) h (b .lengths) (b .steps) catalogue dep → RunRows h (b .done) catalogue
   unfolding contents-of
-  book-run-rows catalogue dep s = run-rows (contents-of b .runs) h catalogue (b .done) (history-length book-history) (s .catalogued)
+  book-run-rows catalogue dep r = run-rows (contents-of b .runs) h catalogue (b .done) (history-length book-history) (book-read catalogue dep r .catalogued)
 
   -- ---- arcs
 
-  unfoldable pub book-tables : (catalogue dep firsts firsts′ lasts lasts′ : List ℕ) → StepsRead (contents-of b .pairs) (contents-of b .runs) (contents-of b .history) catalogue dep
+  unfoldable pub book-tables : (catalogue dep firsts firsts′ lasts lasts′ : List ℕ) → ReadFromCodes (b .pairs) h (b .lengths) (b .steps) catalogue dep
       → UnitTables (unit-of (contents-of b)) (contents-of b .history) firsts firsts′ lasts lasts′
       → TablesOf h dep firsts′ lasts′
   unfolding contents-of
@@ -209,12 +204,12 @@ module _ (b : Book) (v : Valid b) where
     conflict = conflict-of (contents-of b);
     unit = unit-of (contents-of b);
     rises = book-cuts .rises;
-    dep-marks = d .so-far;
+    dep-marks = book-read catalogue dep d .so-far;
     firsts-are = u .firsts-are;
     lasts-are = u .lasts-are;
   }
 
-  pub book-arcs : (catalogue dep firsts firsts′ lasts lasts′ arc : List ℕ) → StepsRead (contents-of b .pairs) (contents-of b .runs) (contents-of b .history) catalogue dep
+  pub book-arcs : (catalogue dep firsts firsts′ lasts lasts′ arc : List ℕ) → ReadFromCodes (b .pairs) h (b .lengths) (b .steps) catalogue dep
       → UnitTables (unit-of (contents-of b)) (contents-of b .history) firsts firsts′ lasts lasts′
       → ArcRows h dep firsts′ lasts′ arc → Marks (Arc (conflict-of (contents-of b)) (unit-of (contents-of b)) (contents-of b .history)) arc
   unfolding contents-of book-tables

@@ -44,9 +44,9 @@ run-only (suc (suc (suc (suc (suc (suc k)))))) l n0 n1 n2 n3 n4 = absurd (beyond
 
 -- ---- which places are found
 
-holds : (b : Bool) → T b → b ≡ true
-holds true t = refl
-holds false t = absurd t
+is-true : (b : Bool) → T b → b ≡ true
+is-true true t = refl
+is-true false t = absurd t
 
 -- what a row of the catalogue has
 module _ (runs : List (List Step)) (h t : List ℕ) (c : Catalogued runs h t) (k v row p : ℕ) (e : row ≡ k * base + v) (l : v < base) (i : row < rows) (hp : p < row-bits) where
@@ -195,8 +195,7 @@ pub second-of : (b c : Bool) → T (b && c) → T c
 second-of true c t = t
 second-of false c t = absurd t
 
-module _ (pairs t : List ℕ) (r : ℕ) (x : Step) (m u : List ℕ) (row : ℕ) (d : PartRow r x run-part row) (w : Finds (PairedAt pairs r x digit-parts) t m)
-    (s : Replaced m u 0 (union (bit-at m 0) (bit-at t row))) where
+module _ (pairs : List ℕ) (r : ℕ) (x : Step) where
   at-conflict : (y : Step) (q : ℕ) → PairedAt pairs r x digit-parts q y → T (steps-conflict (pairs-of pairs) y x)
   unfolding steps-conflict same-position
   at-conflict y q a = both (eqb (y .position) (x .position)) _ (rw (eq-eqb (y .position) (x .position) (same-digits q r y x (a .same))) tt) (a .kinds .paired)
@@ -205,9 +204,11 @@ module _ (pairs t : List ℕ) (r : ℕ) (x : Step) (m u : List ℕ) (row : ℕ) 
   unfolding steps-conflict same-position
   conflict-at y q l b = record {
     kinds = record { low = l; paired = second-of (eqb (y .position) (x .position)) (listed (pairs-of pairs) (y .kind) (x .kind)) b };
-    same = digits-same q r y x (eqb-true (y .position) (x .position) (holds _ (first-of (eqb (y .position) (x .position)) (listed (pairs-of pairs) (y .kind) (x .kind)) b)));
+    same = digits-same q r y x (eqb-true (y .position) (x .position) (is-true _ (first-of (eqb (y .position) (x .position)) (listed (pairs-of pairs) (y .kind) (x .kind)) b)));
   }
 
+module _ (pairs t : List ℕ) (r : ℕ) (x : Step) (m u : List ℕ) (row : ℕ) (d : PartRow r x run-part row) (w : Finds (PairedAt pairs r x digit-parts) t m)
+    (s : Replaced m u 0 (union (bit-at m 0) (bit-at t row))) where
   pub linked-all : Finds (Linked pairs r x) t u
   linked-all = record {
     columns = λ runs h c. record {
@@ -217,13 +218,13 @@ module _ (pairs t : List ℕ) (r : ℕ) (x : Step) (m u : List ℕ) (row : ℕ) 
   }
     where
       from : (runs : List (List Step)) (h : List ℕ) → Catalogued runs h t → (p : ℕ) → p < row-bits → (bit-at m 0 p ≡ 1) ⊎ (bit-at t row p ≡ 1) → Has (Linked pairs r x) runs h p
-      from runs h c p i (inl b) = let a = w .columns runs h c .sound p i b in record { inside = a .inside; holds = inr (at-conflict (done-step runs h p) (run h p) (a .holds)) }
+      from runs h c p i (inl b) = let a = w .columns runs h c .sound p i b in record { inside = a .inside; holds = inr (at-conflict pairs r x (done-step runs h p) (run h p) (a .holds)) }
       from runs h c p i (inr b) = let f = in-row runs h t c run-part r row p (d .is) (d .low) (d .in-table) i b in record { inside = f .0; holds = inl (f .1) }
 
       to : (runs : List (List Step)) (h : List ℕ) → Catalogued runs h t → (p : ℕ) → p < row-bits → p < length h → Linked pairs r x (run h p) (done-step runs h p)
           → (bit-at m 0 p ≡ 1) ⊎ (bit-at t row p ≡ 1)
       to runs h c p i j (inl e) = inr (to-row runs h t c run-part r row p (d .is) (d .low) (d .in-table) i j e)
-      to runs h c p i j (inr b) = inl (w .columns runs h c .complete p i (record { inside = j; holds = conflict-at (done-step runs h p) (run h p) (c .kinds p j) b }))
+      to runs h c p i j (inr b) = inl (w .columns runs h c .complete p i (record { inside = j; holds = conflict-at pairs r x (done-step runs h p) (run h p) (c .kinds p j) b }))
 
 -- ---- one step more
 

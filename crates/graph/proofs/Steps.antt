@@ -8,7 +8,7 @@ use mathlib.Core.Logic.{_⊎_, inl, inr}
 use mathlib.Core.List.{List, [], _∷_, _++_}
 use mir.Val.{Fits}
 use mir.Syntax.{w8}
-use lib.ListN.{length, getD, take, set}
+use lib.ListN.{length, getD, take, set, length-set}
 use lib.Seq.{getD-set-same, getD-set-other, take-take, length-take-le}
 use Rattle.theory.specs.Lists.{sum}
 use Rattle.book.specs.Format.{position-limit, run-limit, step-limit}
@@ -18,7 +18,7 @@ use Rattle.theory.specs.History.{count, run, ordinal}
 use Rattle.theory.proofs.Lists.{count-take-lt, count-take-ne, count-take-le, take-last, sum-take, sum-take-le}
 use Rattle.theory.specs.Deck.{Step, step-of}
 use Rattle.graph.specs.Dependence.{Blank, StepsRead, StepRead}
-use Rattle.graph.specs.inner.Tables.{Small, HistoryOf, Starts, StepsRoom, StepsOf, step-in, StepAt}
+use Rattle.graph.specs.inner.Tables.{Small, HistoryOf, Starts, RunsRoom, StepsOf, step-in, StepAt}
 use Rattle.graph.specs.inner.Reading.{ReadFromCodes}
 use Rattle.graph.proofs.Counting.{low, below-next, history-length, history-run}
 use Rattle.graph.proofs.DependenceRows.{none-read}
@@ -54,25 +54,36 @@ pub record NextSteps (h starts next : List ℕ) (p : ℕ) : Type 0 where
   pub at : (r : ℕ) → r < run-limit → getD next r 0 ≡ getD starts r 0 + count (take p h) r
 
 -- before each turn: next, and the tables after the first q steps
-pub record ReadUpTo (pairs h starts steps next catalogue dep : List ℕ) (n q : ℕ) : Type 0 where
+pub record ReadUpTo (pairs h lengths starts steps next catalogue dep : List ℕ) (n q : ℕ) : Type 0 where
   pub within : q ≤ n
+  pub starts-are : Starts lengths starts
+  pub room : RunsRoom h lengths
+  pub size : length next ≡ run-limit
   pub next-are : NextSteps h starts next q
-  pub read : (runs : List (List Step)) → StepsOf runs h starts steps → StepsRead (pairs-of pairs) runs (take q h) catalogue dep
+  pub read : (runs : List (List Step)) → StepsOf runs h lengths steps → StepsRead (pairs-of pairs) runs (take q h) catalogue dep
 
-pub read-none : (pairs h starts steps catalogue dep : List ℕ) (n : ℕ) → Blank catalogue → Blank dep → ReadUpTo pairs h starts steps starts catalogue dep n 0
-read-none pairs h starts steps catalogue dep n b d = record { within = omega arith; next-are = record { at = λ r i. omega arith }; read = λ runs s. none-read (pairs-of pairs) runs catalogue dep b d }
+pub read-none : (pairs h lengths starts steps catalogue dep : List ℕ) (n : ℕ) → length starts ≡ run-limit → Starts lengths starts → RunsRoom h lengths → Blank catalogue → Blank dep
+    → ReadUpTo pairs h lengths starts steps starts catalogue dep n 0
+read-none pairs h lengths starts steps catalogue dep n l s m b d = record {
+  within = omega arith;
+  starts-are = s;
+  room = m;
+  size = l;
+  next-are = record { at = λ r i. omega arith };
+  read = λ runs s. none-read (pairs-of pairs) runs catalogue dep b d;
+}
 
-pub read-all : (pairs history starts steps next catalogue dep : List ℕ) (n q : ℕ) → ReadUpTo pairs (take n history) starts steps next catalogue dep n q → n ≤ q
-    → ReadFromCodes pairs (take n history) starts steps catalogue dep
-read-all pairs history starts steps next catalogue dep n q w l =
+pub read-all : (pairs history lengths starts steps next catalogue dep : List ℕ) (n q : ℕ) → ReadUpTo pairs (take n history) lengths starts steps next catalogue dep n q → n ≤ q
+    → ReadFromCodes pairs (take n history) lengths steps catalogue dep
+read-all pairs history lengths starts steps next catalogue dep n q w l =
     let e : q ≡ n = omega (arith, w .within) in
     record { read = λ runs s. rw (e, take-take n n history (omega arith)) at (w .read runs s) }
 
 next-taken : (l : List ℕ) (q : ℕ) → q < length l → take (q + 1) l ≡ take q l ++ getD l q 0 ∷ []
 next-taken l q i = let e : q + 1 - 1 ≡ q = omega arith in rw e at (take-last l (q + 1) (omega arith) (omega arith))
 
-module _ (pairs history starts steps next catalogue dep : List ℕ) (n q : ℕ) (hs : HistoryOf history n) (room : StepsRoom (take n history) starts)
-    (w : ReadUpTo pairs (take n history) starts steps next catalogue dep n q) (i : q < n)
+module _ (pairs history lengths starts steps next catalogue dep : List ℕ) (n q : ℕ) (hs : HistoryOf history n)
+    (w : ReadUpTo pairs (take n history) lengths starts steps next catalogue dep n q) (i : q < n)
     (r c : ℕ) (er : r ≡ getD history q 0) (ec : c ≡ getD next r 0) where
   inside : q < length (take n history)
   inside = rw (history-length hs) i
@@ -86,11 +97,15 @@ module _ (pairs history starts steps next catalogue dep : List ℕ) (n q : ℕ) 
   is-step : c ≡ getD starts r 0 + count (take q (take n history)) r
   is-step = ec ∙ w .next-are .at r small
 
+  is-start : getD starts r 0 ≡ sum (take r lengths)
+  is-start = w .starts-are .are r small
+
   counted : count (take (suc q) (take n history)) r ≡ suc (count (take q (take n history)) r)
   counted = sym (count-take-lt (take n history) r q inside is-run)
 
   step-inside : c < step-limit
-  step-inside = rw is-step (room .room r (count (take q (take n history)) r) small (omega (arith, counted, count-take-le (take n history) r (suc q))))
+  step-inside =
+      omega (arith, is-step, is-start, counted, count-take-le (take n history) r (suc q), w .room .within r, w .room .total, sum-take lengths r, sum-take-le lengths (suc r))
 
   pub read-fits : Fits w8 (c + 1)
   read-fits = record { fits = omega (arith, step-inside) }
@@ -99,11 +114,14 @@ module _ (pairs history starts steps next catalogue dep : List ℕ) (n q : ℕ) 
     pub read-index : s < step-limit
     read-index = rw es step-inside
 
-    pub read-more : (x : StepValue) (catalogue′ dep′ : List ℕ) → StepAt steps s x → length next ≡ run-limit → StepRead pairs catalogue catalogue′ dep dep′ q r (as-step x)
-        → ReadUpTo pairs (take n history) starts steps (set next r (c + 1)) catalogue′ dep′ n (q + 1)
+    pub read-more : (x : StepValue) (catalogue′ dep′ : List ℕ) → StepAt steps s x → StepRead pairs catalogue catalogue′ dep dep′ q r (as-step x)
+        → ReadUpTo pairs (take n history) lengths starts steps (set next r (c + 1)) catalogue′ dep′ n (q + 1)
     unfolding ordinal
-    read-more x catalogue′ dep′ ex ln t = record {
+    read-more x catalogue′ dep′ ex t = record {
       within = omega arith;
+      starts-are = w .starts-are;
+      room = w .room;
+      size = length-set next r (c + 1) ∙ w .size;
       next-are = record { at = λ k hk. rw (add-one q) (next-at k hk (ℕ-discrete k r)) };
       read = λ runs o. rw (next-taken (take n history) q inside, is-run) (t .read runs (take q (take n history)) long (is-next runs o) (w .read runs o));
     }
@@ -111,11 +129,11 @@ module _ (pairs history starts steps next catalogue dep : List ℕ) (n q : ℕ) 
         long : length (take q (take n history)) ≡ q
         long = length-take-le q (take n history) (omega (arith, inside))
 
-        is-next : (runs : List (List Step)) → StepsOf runs (take n history) starts steps → step-of runs r (count (take q (take n history)) r) ≡ as-step x
-        is-next runs o = (rw is-run at (o .at q inside)) ∙ ap (step-in steps) (sym is-step ∙ sym es) ∙ sym (ex .is)
+        is-next : (runs : List (List Step)) → StepsOf runs (take n history) lengths steps → step-of runs r (count (take q (take n history)) r) ≡ as-step x
+        is-next runs o = (rw is-run at (o .at q inside)) ∙ ap (step-in steps) (ap (λ (a : ℕ). a + count (take q (take n history)) r) (sym is-start) ∙ sym is-step ∙ sym es) ∙ sym (ex .is)
 
         next-at : (k : ℕ) → k < run-limit → Dec (k ≡ r) → getD (set next r (c + 1)) k 0 ≡ getD starts k 0 + count (take (suc q) (take n history)) k
-        next-at k hk (yes e) = rw e (getD-set-same next r (c + 1) 0 (omega (arith, small)) ∙ omega (arith, is-step, counted))
+        next-at k hk (yes e) = rw e (getD-set-same next r (c + 1) 0 (omega (arith, small, w .size)) ∙ omega (arith, is-step, counted))
         next-at k hk (no m) = getD-set-other next r k (c + 1) 0 m ∙ w .next-are .at k hk ∙ ap (λ (x : ℕ). getD starts k 0 + x) (sym (count-take-ne (take n history) k q (λ e. m (sym e ∙ is-run))))
 
 -- ---- the step of a code

@@ -18,9 +18,9 @@ ghost use Rattle.book.specs.Meaning.{conflict-of, unit-of};
 ghost use Rattle.graph.specs.Marks.{Marks};
 ghost use Rattle.graph.specs.Units.{units-size, UnchangedFrom, UnitTables};
 ghost use Rattle.graph.specs.Catalogue.{digit-parts, parts};
-ghost use Rattle.graph.specs.Dependence.{Blank, StepsRead, StepRead};
+ghost use Rattle.graph.specs.Dependence.{Blank, StepRead};
 ghost use Rattle.graph.specs.inner.Reading.{PartRow, Entered, Finds, Paired, KindAdded, PairedAt, Linked, RowFrom, ReadFromCodes};
-ghost use Rattle.graph.specs.inner.Tables.{places-size, Small, HistoryOf, Declared, NumberAt, StepAt, Starts, StepsRoom, Numbering, Counts, EachBy, RowRoom, RowSet, by-flag, copied-row};
+ghost use Rattle.graph.specs.inner.Tables.{places-size, Small, HistoryOf, Declared, NumberAt, StepAt, Starts, RunsRoom, Numbering, Counts, EachBy, RowRoom, RowSet, by-flag, copied-row};
 ghost use Rattle.graph.specs.inner.Arcs.{ArcOf, ArcOfPlaces, RunRows, TablesOf, GainedBy, ArcRows, ArcInput, Rowed};
 ghost use Rattle.bits.specs.Table.{bit-at, intersection};
 ghost use Rattle.bits.specs.Last.{LastAt};
@@ -141,7 +141,7 @@ fn enter(catalogue: &mut Table, q: usize, r: usize, x: Step)
     }
 }
 
-// Adds the places of kind k, if it is paired with this kind.
+// Adds the places of kind k, if k is paired with `kind`.
 fn add_kind(pairs: &[u8; Book::PAIRS_SIZE], catalogue: &Table, kind: usize, k: usize, m: &mut Row)
     requires { ⌜ (kind < kind-limit) × (k < kind-limit) ⌝ }
     ensures { λ _. ⌜ KindAdded (now (pairs .entry)) (now (catalogue .entry)) kind k (now (m .entry)) (now (m .exit)) ⌝ }
@@ -151,7 +151,7 @@ fn add_kind(pairs: &[u8; Book::PAIRS_SIZE], catalogue: &Table, kind: usize, k: u
     }
 }
 
-// The places of the kinds that are paired with this one.
+// The places of the kinds that are paired with `kind`.
 fn paired(pairs: &[u8; Book::PAIRS_SIZE], catalogue: &Table, kind: usize) -> Row
     requires { ⌜ kind < kind-limit ⌝ }
     ensures { λ m. ⌜ Finds (Paired (now (pairs .entry)) kind kind-limit) (now (catalogue .entry)) m ⌝ }
@@ -165,7 +165,7 @@ fn paired(pairs: &[u8; Book::PAIRS_SIZE], catalogue: &Table, kind: usize) -> Row
     m
 }
 
-// The places that a step x conflicts with if it is of another run: of a paired kind, and with the digits of its position.
+// The places that a step x conflicts with where they are of another run: of a kind paired with its own, and with all digits of its position.
 fn conflicting(pairs: &[u8; Book::PAIRS_SIZE], catalogue: &Table, r: usize, x: Step) -> Row
     requires { ⌜ (r < run-limit) × (x .kind < kind-limit) ⌝ }
     ensures { λ m. ⌜ Finds (PairedAt (now (pairs .entry)) r (as-step x) digit-parts) (now (catalogue .entry)) m ⌝ }
@@ -229,22 +229,25 @@ pub fn read_step(
     enter(catalogue, q, r, x);
 }
 
-// Reads the first n steps of a history, one by one, into tables that mark nothing yet. `next` has the next step of each run.
+// Reads the first n steps of a history, one by one, into tables that mark nothing yet.
 fn read_steps(
     history: &[u8; Book::STEPS],
     n: usize,
+    lengths: &[u8; Book::RUNS],
     steps: &[u32; Book::STEPS],
     pairs: &[u8; Book::PAIRS_SIZE],
-    next: &mut [u8; Book::RUNS],
     catalogue: &mut Table,
     dep: &mut Table,
 )
-    requires { ⌜ HistoryOf (now history) n × StepsRoom (take n (now history)) (now next) × Small code-limit (now steps) × Blank (now catalogue) × Blank (now dep) ⌝ }
-    ensures { λ _. ⌜ ReadFromCodes (now (pairs .entry)) (take n (now (history .entry))) (now (next .entry)) (now (steps .entry)) (now (catalogue .exit)) (now (dep .exit)) ⌝ }
+    requires { ⌜ HistoryOf (now history) n × RunsRoom (take n (now history)) (now lengths) × Small code-limit (now steps) × Blank (now catalogue) × Blank (now dep) ⌝ }
+    ensures { λ _. ⌜ ReadFromCodes (now (pairs .entry)) (take n (now (history .entry))) (now (lengths .entry)) (now (steps .entry)) (now (catalogue .exit)) (now (dep .exit)) ⌝ }
 {
+    // The next step of each run.
+    let mut next = [0u8; Book::RUNS];
+    starts(lengths, &mut next);
+    sized_by_run(next);
     let mut q = 0;
     while q < n {
-        sized_by_run(*next);
         let r = run_of(history, q);
         let i = next[r];
         let x = step_at(steps, book::wide(i));
@@ -254,28 +257,26 @@ fn read_steps(
     }
 }
 
-// Reads the book's history, step by step, into tables that mark nothing yet.
-fn read_history(b: Book, catalogue: &mut Table, dep: &mut Table)
-    requires { ⌜ Valid b × Blank (now catalogue) × Blank (now dep) ⌝ }
-    ensures { λ _. ⌜ StepsRead (contents-of b .pairs) (contents-of b .runs) (contents-of b .history) (now (catalogue .exit)) (now (dep .exit)) ⌝ }
-{
-    let history = b.history;
-    let lengths = b.lengths;
-    let steps = b.steps;
-    let pairs = b.pairs;
-    let mut next = [0u8; Book::RUNS];
-    starts(&lengths, &mut next);
-    read_steps(&history, b.done, &steps, &pairs, &mut next, catalogue, dep);
-}
-
 // The dependence table of the book's history: bit p of row q where q depends on p.
 pub fn dependences(b: Book, dep: &mut Table)
     requires { ⌜ Valid b ⌝ }
     ensures { λ r. ⌜ Marks (Depends (conflict-of (contents-of b)) (contents-of b .history)) (now (dep .exit)) ⌝ }
 {
+    let history = b.history;
+    let lengths = b.lengths;
+    let steps = b.steps;
+    let pairs = b.pairs;
     *dep = [0; bits::TABLE_WORDS];
     let mut catalogue = [0; bits::TABLE_WORDS];
-    read_history(b, &mut catalogue, dep);
+    read_steps(
+        &history,
+        b.done,
+        &lengths,
+        &steps,
+        &pairs,
+        &mut catalogue,
+        dep,
+    );
 }
 
 // The ordinal of each place, and the place of each step.
@@ -514,14 +515,25 @@ pub fn arcs(b: Book, arc: &mut Table)
     requires { ⌜ Valid b ⌝ }
     ensures { λ r. ⌜ Marks (Arc (conflict-of (contents-of b)) (unit-of (contents-of b)) (contents-of b .history)) (now (arc .exit)) ⌝ }
 {
+    let history = b.history;
+    let lengths = b.lengths;
+    let steps = b.steps;
+    let pairs = b.pairs;
+    let n = b.done;
     let mut catalogue = [0; bits::TABLE_WORDS];
     let mut dep = [0; bits::TABLE_WORDS];
-    read_history(b, &mut catalogue, &mut dep);
+    read_steps(
+        &history,
+        n,
+        &lengths,
+        &steps,
+        &pairs,
+        &mut catalogue,
+        &mut dep,
+    );
     let mut firsts = [0u8; UNITS_SIZE];
     let mut lasts = [0u8; UNITS_SIZE];
     units(b, &mut firsts, &mut lasts);
-    let history = b.history;
-    let n = b.done;
     arc_rows(
         &history,
         n,

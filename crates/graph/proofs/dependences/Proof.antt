@@ -1,15 +1,15 @@
 -- The rows so far, after the last step, are those of the whole history.
 use Rattle.graph.proofs.DependenceRows.{blank-zeros}
-use Rattle.graph.proofs.BookTables.{book-dependences}
+use Rattle.graph.proofs.BookTables.{book-history, book-room, book-steps, book-dependences}
 use borrow.Author.Needs.{needs}
 use Rattle.graph.proofs.dependences.Statement.{statement}
 use Rattle.graph.proofs.dependences.Tie as tie
 
-read-history-requires : tie.Need-read-history-requires
-read-history-requires c κs = (search needs, search blank-zeros, search blank-zeros)
+read-steps-requires : tie.Need-read-steps-requires
+read-steps-requires c κs = (search book-history, search book-room, search book-steps, search blank-zeros, search blank-zeros)
 
 returns : tie.Need-returns
 returns c = search book-dependences
 
 pub dependences-spec : {M : Type 1} → statement M
-dependences-spec = tie.close (tie.spec read-history-requires returns)
+dependences-spec = tie.close (tie.spec read-steps-requires returns)

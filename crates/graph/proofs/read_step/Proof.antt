@@ -1,4 +1,4 @@
--- The linked places are those on which the place read directly depends, with what they depend on they are its dependence row, and the catalogue has one step more.
+-- The linked places are those on which the place read directly depends. With what they depend on they are its dependence row. The catalogue has one step more.
 use Rattle.graph.proofs.DependenceRows.{step-read}
 use borrow.Author.Needs.{needs}
 use Rattle.graph.proofs.read_step.Statement.{statement}

@@ -7,22 +7,25 @@ use Rattle.graph.proofs.read_steps.Statement.{statement}
 use Rattle.graph.proofs.read_steps.Tie as tie
 
 abbrev Inv-loop : tie.InvT-loop
-Inv-loop history n steps pairs next₀ catalogue₀ dep₀ q₀ next catalogue dep q = ReadUpTo pairs (take n history) next₀ steps next catalogue dep n q
+Inv-loop history n lengths steps pairs catalogue₀ dep₀ next₀ q₀ catalogue dep next q = ReadUpTo pairs (take n history) lengths next₀ steps next catalogue dep n q
 
 abbrev μ-loop : tie.MeasureT-loop
-μ-loop history n steps pairs next₀ catalogue₀ dep₀ q₀ next catalogue dep q = n - q
+μ-loop history n lengths steps pairs catalogue₀ dep₀ next₀ q₀ catalogue dep next q = n - q
 
-loop-holds : tie.Need-loop-holds Inv-loop μ-loop
-loop-holds c = search read-none
+starts-requires : tie.Need-starts-requires Inv-loop μ-loop
+starts-requires c κs = search needs
 
 sized-by-run-requires : tie.Need-sized-by-run-requires Inv-loop μ-loop
 sized-by-run-requires c κs = search needs
 
+loop-holds : tie.Need-loop-holds Inv-loop μ-loop
+loop-holds c = search (needs, read-none)
+
 run-of-requires : tie.Need-run-of-requires Inv-loop μ-loop
 run-of-requires c κs = search needs
 
-element-copy-out-i : tie.Need-element-copy-out-i Inv-loop μ-loop
-element-copy-out-i c = search needs
+array-read-i : tie.Need-array-read-i Inv-loop μ-loop
+array-read-i c = search needs
 
 wide-requires : tie.Need-wide-requires Inv-loop μ-loop
 wide-requires c κs = search needs
@@ -33,8 +36,8 @@ step-at-requires c κs = (search read-index, search needs)
 add-next : tie.Need-add-next Inv-loop μ-loop
 add-next c = search (needs, read-fits)
 
-element-write-next : tie.Need-element-write-next Inv-loop μ-loop
-element-write-next c = search needs
+array-write-next : tie.Need-array-write-next Inv-loop μ-loop
+array-write-next c = search needs
 
 read-step-requires : tie.Need-read-step-requires Inv-loop μ-loop
 read-step-requires c κs = search needs
@@ -57,14 +60,15 @@ read-steps-spec =
     (tie.spec
     Inv-loop
     μ-loop
-    loop-holds
+    starts-requires
     sized-by-run-requires
+    loop-holds
     run-of-requires
-    element-copy-out-i
+    array-read-i
     wide-requires
     step-at-requires
     add-next
-    element-write-next
+    array-write-next
     read-step-requires
     add-q
     loop-less

@@ -37,12 +37,12 @@ pub record Has (P : ℕ → Step → Type 0) (runs : List (List Step)) (h : List
 pub record Finds (P : ℕ → Step → Type 0) (catalogue m : List ℕ) : Type 0 where
   pub columns : (runs : List (List Step)) (h : List ℕ) → Catalogued runs h catalogue → Columns (Has P runs h) m
 
--- the kind of y is below m, and paired with this one
+-- the kind of y is below m, and paired with `kind`
 pub record Paired (pairs : List ℕ) (kind m r : ℕ) (y : Step) : Type 0 where
   pub low : y .kind < m
   pub paired : T (listed (pairs-of pairs) (y .kind) kind)
 
--- m′ has the places of m, and those of kind k too if it is paired with this kind
+-- m′ has the places of m, and those of kind k too if it is paired with `kind`
 pub record KindAdded (pairs catalogue : List ℕ) (kind k : ℕ) (m m′ : List ℕ) : Type 0 where
   pub more : Finds (Paired pairs kind k) catalogue m → Finds (Paired pairs kind (k + 1)) catalogue m′
 
@@ -62,7 +62,7 @@ pub record DependsSoFar (conflict : ℕ → ℕ → ℕ → ℕ → Bool) (h : L
   pub so-far : y < q
   pub depends : Depends conflict h x y
 
--- m has the places on which place q depends, of any history on which it directly depends on the linked places, and whose earlier rows these are
+-- m has the places on which place q depends, for any history in which it directly depends on the linked places and whose earlier rows these are
 pub record RowFrom (dep linked m : List ℕ) : Type 0 where
   pub row : (conflict : ℕ → ℕ → ℕ → ℕ → Bool) (h : List ℕ) (q : ℕ) → q < rows → Columns (λ p. DirectlyDepends conflict h p q) linked → Marks (DependsSoFar conflict h q) dep
       → Columns (λ p. Depends conflict h p q) m
@@ -70,5 +70,5 @@ pub record RowFrom (dep linked m : List ℕ) : Type 0 where
 -- ---- the rows of a history
 
 -- the tables are those after the steps of h, for any runs whose steps have these codes
-pub record ReadFromCodes (pairs h starts steps catalogue dep : List ℕ) : Type 0 where
-  pub read : (runs : List (List Step)) → StepsOf runs h starts steps → StepsRead (pairs-of pairs) runs h catalogue dep
+pub record ReadFromCodes (pairs h lengths steps catalogue dep : List ℕ) : Type 0 where
+  pub read : (runs : List (List Step)) → StepsOf runs h lengths steps → StepsRead (pairs-of pairs) runs h catalogue dep

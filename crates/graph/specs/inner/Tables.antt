@@ -43,9 +43,10 @@ pub record NumberAt (t : List ℕ) (i m r : ℕ) : Type 0 where
 pub record Starts (lengths starts : List ℕ) : Type 0 where
   pub are : (r : ℕ) → r < run-limit → getD starts r 0 ≡ sum (take r lengths)
 
--- the steps of h, of which run r's begin at starts r, are among step-limit
-pub record StepsRoom (h starts : List ℕ) : Type 0 where
-  pub room : (r i : ℕ) → r < run-limit → i < count h r → getD starts r 0 + i < step-limit
+-- there is room for the steps of runs of these lengths, and no run has more done steps
+pub record RunsRoom (h lengths : List ℕ) : Type 0 where
+  pub total : sum lengths ≤ step-limit
+  pub within : (r : ℕ) → count h r ≤ getD lengths r 0
 
 -- the step of a code in a table
 abbrev pub step-in : List ℕ → ℕ → Step
@@ -56,9 +57,9 @@ pub record StepAt (steps : List ℕ) (i : ℕ) (x : StepValue) : Type 0 where
   pub is : as-step x ≡ step-in steps i
   pub kind : x .kind < kind-limit
 
--- the steps of h are, in these runs, those that the table has, run r's from starts r on
-pub record StepsOf (runs : List (List Step)) (h starts steps : List ℕ) : Type 0 where
-  pub at : (p : ℕ) → p < length h → step-of runs (run h p) (ordinal h p) ≡ step-in steps (getD starts (run h p) 0 + ordinal h p)
+-- the steps of h are, in these runs, those that the table has of runs of these lengths, one behind the other
+pub record StepsOf (runs : List (List Step)) (h lengths steps : List ℕ) : Type 0 where
+  pub at : (p : ℕ) → p < length h → step-of runs (run h p) (ordinal h p) ≡ step-in steps (sum (take (run h p) lengths) + ordinal h p)
 
 -- ---- units
 
