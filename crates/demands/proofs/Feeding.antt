@@ -1,22 +1,27 @@
 -- One more call on tables that were fed so far.
 use Prim.Native.Nat.{ℕ}
 use mathlib.Core.Path.{_≡_}
+use mathlib.Core.Bool.{Bool}
 use mathlib.Core.List.{List, [], _∷_, _++_}
 use lib.ListN.{length}
 use Rattle.theory.specs.History.{count}
 use Rattle.theory.specs.Deck.{Step, step-of}
-use Rattle.graph.specs.Dependence.{StepRead}
+use Rattle.graph.specs.Dependence.{StepRead, StepAnswered}
 use Rattle.claims.specs.OnePass.{Fed, one-more}
 use Rattle.claims.proofs.OnePass.{one-pass}
 use Rattle.demands.specs.Results.{StepFed}
 
-module _ (pairs catalogue catalogue′ dep dep′ : List ℕ) (q r : ℕ) (x : Step) (s : StepRead pairs catalogue catalogue′ dep dep′ q r x) where
-  fed : (runs : List (List Step)) (h c d l : List ℕ) → length l ≡ q → step-of runs r (count l r) ≡ x → Fed pairs runs h c d l catalogue dep → Fed pairs runs h c d (l ++ r ∷ []) catalogue′ dep′
-  fed runs h c d l e f p = one-more {l = l} {c = catalogue} {d = dep} {c′ = catalogue′} {d′ = dep′} {r = r} p (rw (e, f) s)
+module _ (pairs catalogue catalogue′ dep dep′ : List ℕ) (q r : ℕ) (x : Step) where
+  fed : StepRead pairs catalogue catalogue′ dep dep′ q r x → (runs : List (List Step)) (h c d l : List ℕ) → length l ≡ q → step-of runs r (count l r) ≡ x
+      → Fed pairs runs h c d l catalogue dep → Fed pairs runs h c d (l ++ r ∷ []) catalogue′ dep′
+  fed s runs h c d l e f p = one-more {l = l} {c = catalogue} {d = dep} {c′ = catalogue′} {d′ = dep′} {r = r} p (rw (e, f) s)
 
-  pub step-fed : StepFed pairs catalogue catalogue′ dep dep′ q r x
-  step-fed = record {
-    fed = fed;
-    each-step = λ runs c d l e f b b′ p. one-pass .each-step pairs runs c d (l ++ r ∷ []) catalogue′ dep′ b b′ (fed runs [] c d l e f p);
-    unchanged = λ runs h c d l e f p i k. one-pass .unchanged pairs runs h c d (l ++ r ∷ []) catalogue′ dep′ (fed runs h c d l e f p) i k;
+  pub step-fed : (answer : Bool) → StepAnswered pairs catalogue catalogue′ dep dep′ q r x answer → StepFed pairs catalogue catalogue′ dep dep′ q r x answer
+  step-fed answer a = record {
+    in-range = a .in-range;
+    same-catalogue = a .same-catalogue;
+    same-rows = a .same-rows;
+    fed = λ y. fed (a .read y);
+    each-step = λ y runs c d l e f b b′ p. one-pass .each-step pairs runs c d (l ++ r ∷ []) catalogue′ dep′ b b′ (fed (a .read y) runs [] c d l e f p);
+    unchanged = λ y runs h c d l e f p i k. one-pass .unchanged pairs runs h c d (l ++ r ∷ []) catalogue′ dep′ (fed (a .read y) runs h c d l e f p) i k;
   }

@@ -2,13 +2,14 @@
 -- them: the results of the public calls, or answers as these promise them.
 use Prim.Native.Nat.{ℕ, _*_, _/_, _≤_, _<_}
 use mathlib.Core.Path.{_≡_}
-use mathlib.Core.Bool.{true}
+use mathlib.Core.Bool.{Bool, true, false}
 use mathlib.Core.List.{List, [], _∷_, _++_}
 use lib.ListN.{length, getD, take}
 use Rattle.bits.specs.Table.{row-words}
 use Rattle.buffer.specs.Put.{Put}
 use Rattle.theory.specs.History.{count}
 use Rattle.theory.specs.Deck.{Step, step-of}
+use Rattle.theory.specs.Answers.{Answers}
 use Rattle.book.specs.Format.{Contents, accepted, step-limit, read}
 use Rattle.classes.specs.declared.Tested.the-variants.{Yes}
 use Rattle.judge.specs.declared.Judgement.{Judgement}
@@ -24,7 +25,7 @@ use Rattle.report.specs.Text.{Findings, refused-at, accepted-with, text-of}
 use Rattle.report.specs.Reporting.{Reports}
 use Rattle.capi.specs.declared.Answered.{Answered}
 use Rattle.capi.specs.declared.Judged.{Judged}
-use Rattle.graph.specs.Dependence.{Blank}
+use Rattle.graph.specs.Dependence.{Blank, InRange}
 use Rattle.claims.specs.OnePass.{Fed, RowsAfter}
 use Rattle.claims.specs.Table.{BookRow, NoRow, JudgeRow, WriterRow, GateRow, ReplayRow}
 use Rattle.claims.specs.Demands.{TurnsAway, BuffersUnchanged, WithoutRuns, answered-numbers, judged-numbers, opened-numbers, Demand2}
@@ -101,13 +102,17 @@ pub record NestedText (s before after : List ℕ) (n : ℕ) : Type 0 where
   pub any-cuts : (s′ : List ℕ) → OtherCuts s s′ → (before′ after′ : List ℕ) (n′ : ℕ) (p′ : Reports (read s′) before′ after′ n′) (w w′ : Findings)
       → promised .report ≡ accepted-with w → p′ .report ≡ accepted-with w′ → w .conflict ≡ true → TextSaysPassed (w′ .verdict)
 
--- of tables that were fed the steps of l, where x is read as place q, the next step of run r
-pub record StepFed (pairs catalogue catalogue′ dep dep′ : List ℕ) (q r : ℕ) (x : Step) : Type 0 where
-  -- they were fed one step more, so that the next call may follow,
-  pub fed : (runs : List (List Step)) (h c d l : List ℕ) → length l ≡ q → step-of runs r (count l r) ≡ x → Fed pairs runs h c d l catalogue dep
+-- where x is to be read as place q, the next step of run r, by tables that were fed the steps of l
+pub record StepFed (pairs catalogue catalogue′ dep dep′ : List ℕ) (q r : ℕ) (x : Step) (answer : Bool) : Type 0 where
+  -- the answer says whether there is such a place, run and kind; if not, nothing changes;
+  pub in-range : Answers (InRange q r x) answer
+  pub same-catalogue : answer ≡ false → catalogue′ ≡ catalogue
+  pub same-rows : answer ≡ false → dep′ ≡ dep
+  -- if so, they were fed one step more, so that the next call may follow,
+  pub fed : answer ≡ true → (runs : List (List Step)) (h c d l : List ℕ) → length l ≡ q → step-of runs r (count l r) ≡ x → Fed pairs runs h c d l catalogue dep
       → Fed pairs runs h c d (l ++ r ∷ []) catalogue′ dep′
   -- the rows so far and to come are as the one pass promises, and earlier ones are unchanged
-  pub each-step : (runs : List (List Step)) (c d l : List ℕ) → length l ≡ q → step-of runs r (count l r) ≡ x → Blank c → Blank d → Fed pairs runs [] c d l catalogue dep
+  pub each-step : answer ≡ true → (runs : List (List Step)) (c d l : List ℕ) → length l ≡ q → step-of runs r (count l r) ≡ x → Blank c → Blank d → Fed pairs runs [] c d l catalogue dep
       → RowsAfter pairs runs (l ++ r ∷ []) dep′
-  pub unchanged : (runs : List (List Step)) (h c d l : List ℕ) → length l ≡ q → step-of runs r (count l r) ≡ x → Fed pairs runs h c d l catalogue dep
+  pub unchanged : answer ≡ true → (runs : List (List Step)) (h c d l : List ℕ) → length l ≡ q → step-of runs r (count l r) ≡ x → Fed pairs runs h c d l catalogue dep
       → (i : ℕ) → i / row-words < length h → getD dep′ i 0 ≡ getD d i 0

@@ -14,8 +14,6 @@ use gate::Gate;
 use gate::Replayed;
 use judge::Judgement;
 use judge::Verdict;
-ghost use Prim.Native.Nat.{_<_};
-ghost use Rattle.book.specs.Format.{kind-limit, run-limit, step-limit};
 ghost use Rattle.book.specs.Book.{Valid, as-step, outcome-by};
 ghost use Rattle.gate.specs.Plain.{step as step-call, withdraw as withdraw-call};
 ghost use Rattle.capi.specs.Calls.{GateCall};
@@ -269,7 +267,7 @@ pub fn nested_text(s: &[u8], text: &mut [u8; report::TEXT]) -> usize
     report::report(s, text)
 }
 
-// Has one more step, x of run r, read as place q.
+// Has one more step, x of run r, read as place q, and answers whether it was.
 pub fn feed_step(
     pairs: &[u8; Book::PAIRS_SIZE],
     q: usize,
@@ -277,9 +275,8 @@ pub fn feed_step(
     x: Step,
     catalogue: &mut Table,
     dep: &mut Table,
-)
-    requires { ⌜ (q < step-limit) × (r < run-limit) × (x .kind < kind-limit) ⌝ }
-    ensures { λ _. ⌜ StepFed (now (pairs .entry)) (now (catalogue .entry)) (now (catalogue .exit)) (now (dep .entry)) (now (dep .exit)) q r (as-step x) ⌝ }
+) -> bool
+    ensures { λ answer. ⌜ StepFed (now (pairs .entry)) (now (catalogue .entry)) (now (catalogue .exit)) (now (dep .entry)) (now (dep .exit)) q r (as-step x) answer ⌝ }
 {
-    graph::read_step(pairs, q, r, x, catalogue, dep);
+    graph::read_step(pairs, q, r, x, catalogue, dep)
 }

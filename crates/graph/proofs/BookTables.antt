@@ -13,7 +13,7 @@ use lib.Dec.{eqb, leb}
 use borrow.Author.Tests.{leb-true, le-leb, lt-leb, eq-eqb, ne-eqb}
 use Rattle.book.specs.declared.Book.{Book}
 use Rattle.theory.specs.Lists.{sum}
-use Rattle.book.specs.Format.{run-limit, run-step-limit, step-limit}
+use Rattle.book.specs.Format.{run-limit, run-step-limit}
 use Rattle.book.specs.Book.{run-cuts, code-limit, flagged, cut-of, step-coded, runs-of-lengths, contents-of, Valid}
 use Rattle.book.specs.Meaning.{conflict-of, unit-of}
 use Rattle.book.proofs.Groups.{count-flagged}
@@ -29,7 +29,7 @@ use Rattle.graph.specs.inner.Tables.{Small, HistoryOf, Declared, RunsRoo
 use Rattle.graph.specs.Dependence.{StepsRead}
 use Rattle.graph.specs.inner.Reading.{ReadFromCodes}
 use Rattle.graph.specs.inner.Arcs.{RunRows, TablesOf, ArcRows}
-use Rattle.graph.proofs.Counting.{history-length, history-run, history-small}
+use Rattle.graph.proofs.Counting.{history-length, history-run}
 use Rattle.graph.proofs.Catalogue.{run-rows}
 use Rattle.theory.proofs.Lists.{sum-take, sum-take-le, sum-front}
 

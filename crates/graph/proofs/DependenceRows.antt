@@ -3,9 +3,9 @@
 use Prim.Native.Nat.{ℕ, suc, _+_, _-_, _≤_, _<_}
 use native.Mathlib.Decide.{ℕ-discrete, decLt}
 use native.Mathlib.Omega.{arith}
-use mathlib.Core.Path.{_≡_, sym, ap, _∙_}
+use mathlib.Core.Path.{_≡_, refl, sym, ap, _∙_}
 use mathlib.Core.Logic.{_⊎_, inl, inr}
-use mathlib.Core.Bool.{Bool, _&&_, not}
+use mathlib.Core.Bool.{Bool, true, false, true≢false, _&&_, not}
 use mathlib.Core.List.{List, [], _∷_, _++_}
 use lib.ListN.{length, replicate}
 use lib.Dec.{eqb}
@@ -22,11 +22,11 @@ use Rattle.theory.specs.Relative.{Conflicting, DirectlyDepends, Depends, direct
 use Rattle.theory.proofs.Lists.{length-snoc}
 use Rattle.theory.proofs.Steps.{dep-inside}
 use Rattle.theory.proofs.Within.{front, front-depends, depends-front}
-use Rattle.book.specs.Format.{kind-limit}
+use Rattle.book.specs.Format.{kind-limit, run-limit, step-limit}
 use Rattle.book.specs.Book.{pairs-of}
 use Rattle.graph.specs.Marks.{Marks, Columns}
 use Rattle.graph.specs.Catalogue.{done-step, parts}
-use Rattle.graph.specs.Dependence.{Blank, StepsRead, StepRead}
+use Rattle.graph.specs.Dependence.{Blank, StepsRead, StepRead, InRange, StepAnswered}
 use Rattle.graph.specs.inner.Reading.{Entered, Finds, Linked, DependsSoFar, RowFrom}
 use Rattle.graph.proofs.Counting.{low, clash}
 use Rattle.graph.proofs.Rows.{added-from, added}
@@ -213,6 +213,34 @@ module _ (pairs t u dep dep′ linked m : List ℕ) (q r : ℕ) (x : Step) (hq :
 
   pub step-read : StepRead pairs t u dep dep′ q r x
   step-read = record { read = read; unchanged = j .words }
+
+-- ---- the answer
+
+module _ (pairs t dep : List ℕ) (q r : ℕ) (x : Step) where
+  refused : ¬ InRange q r x → StepAnswered pairs t t dep dep q r x false
+  refused n = record {
+    in-range = record { sound = λ e. absurd (true≢false (sym e)); complete = λ i. absurd (n i) };
+    read = λ e. absurd (true≢false (sym e));
+    same-catalogue = λ e. refl;
+    same-rows = λ e. refl;
+  }
+
+  pub no-place : step-limit ≤ q → StepAnswered pairs t t dep dep q r x false
+  no-place l = refused (λ i. omega (arith, i .place))
+
+  pub no-run : run-limit ≤ r → StepAnswered pairs t t dep dep q r x false
+  no-run l = refused (λ i. omega (arith, i .run))
+
+  pub no-kind : (v : ℕ) → v ≡ x .kind → kind-limit ≤ v → StepAnswered pairs t t dep dep q r x false
+  no-kind v e l = refused (λ i. omega (arith, i .kind))
+
+  pub answered : (u dep′ : List ℕ) (v : ℕ) → q < step-limit → r < run-limit → v ≡ x .kind → v < kind-limit → StepRead pairs t u dep dep′ q r x → StepAnswered pairs t u dep dep′ q r x true
+  answered u dep′ v hq hr e hk s = record {
+    in-range = record { sound = λ _. record { place = hq; run = hr; kind = omega arith }; complete = λ i. refl };
+    read = λ _. s;
+    same-catalogue = λ z. absurd (true≢false z);
+    same-rows = λ z. absurd (true≢false z);
+  }
 
 -- ---- no step yet
 

@@ -3,12 +3,15 @@
 use Prim.Native.Nat.{ℕ, _/_, _≤_, _<_}
 use mathlib.Core.Path.{_≡_}
 use mathlib.Core.Logic.{_≢_}
+use mathlib.Core.Bool.{Bool, true, false}
 use mathlib.Core.List.{List, [], _∷_, _++_}
 use lib.ListN.{length, getD}
 use Rattle.bits.specs.Table.{row-words, row-bits, rows, bit-at}
 use Rattle.theory.specs.History.{count}
 use Rattle.theory.specs.Deck.{Pair, Step, step-of, conflict}
 use Rattle.theory.specs.Relative.{Depends}
+use Rattle.theory.specs.Answers.{Answers}
+use Rattle.book.specs.Format.{kind-limit, run-limit, step-limit}
 use Rattle.book.specs.Book.{pairs-of}
 use Rattle.graph.specs.Marks.{Marks}
 use Rattle.graph.specs.Catalogue.{Catalogued}
@@ -31,3 +34,16 @@ pub record StepRead (pairs catalogue catalogue′ dep dep′ : List ℕ) (q r : 
       → StepsRead (pairs-of pairs) runs h catalogue dep → StepsRead (pairs-of pairs) runs (h ++ r ∷ []) catalogue′ dep′
   -- every row but q has the same words as before
   pub unchanged : (i : ℕ) → i / row-words ≢ q → getD dep′ i 0 ≡ getD dep i 0
+
+-- there is a place q, a run r and a kind of x
+pub record InRange (q r : ℕ) (x : Step) : Type 0 where
+  pub place : q < step-limit
+  pub run : r < run-limit
+  pub kind : x .kind < kind-limit
+
+-- what a call says: whether they are in range; if so the step is read, if not nothing changes
+pub record StepAnswered (pairs catalogue catalogue′ dep dep′ : List ℕ) (q r : ℕ) (x : Step) (answer : Bool) : Type 0 where
+  pub in-range : Answers (InRange q r x) answer
+  pub read : answer ≡ true → StepRead pairs catalogue catalogue′ dep dep′ q r x
+  pub same-catalogue : answer ≡ false → catalogue′ ≡ catalogue
+  pub same-rows : answer ≡ false → dep′ ≡ dep

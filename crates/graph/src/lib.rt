@@ -18,7 +18,7 @@ ghost use Rattle.book.specs.Meaning.{conflict-of, unit-of};
 ghost use Rattle.graph.specs.Marks.{Marks};
 ghost use Rattle.graph.specs.Units.{units-size, UnchangedFrom, UnitTables};
 ghost use Rattle.graph.specs.Catalogue.{digit-parts, parts};
-ghost use Rattle.graph.specs.Dependence.{Blank, StepRead};
+ghost use Rattle.graph.specs.Dependence.{Blank, StepRead, StepAnswered};
 ghost use Rattle.graph.specs.inner.Reading.{PartRow, Entered, Finds, Paired, KindAdded, PairedAt, Linked, RowFrom, ReadFromCodes};
 ghost use Rattle.graph.specs.inner.Tables.{places-size, Small, HistoryOf, Declared, NumberAt, StepAt, Starts, RunsRoom, Numbering, Counts, EachBy, RowRoom, RowSet, by-flag, copied-row};
 ghost use Rattle.graph.specs.inner.Arcs.{ArcOf, ArcOfPlaces, RunRows, TablesOf, GainedBy, ArcRows, ArcInput, Rowed};
@@ -211,8 +211,8 @@ fn dependence_row(dep: &Table, linked: &Row) -> Row
     m
 }
 
-// Reads one more step, x of run r, as place q. The catalogue and the dependence table are those of the steps read before, at first all zero.
-pub fn read_step(
+// Reads one more step, x of run r, as place q.
+fn read_in_range(
     pairs: &[u8; Book::PAIRS_SIZE],
     q: usize,
     r: usize,
@@ -227,6 +227,31 @@ pub fn read_step(
     let row = dependence_row(dep, &linked);
     bits::replace_row(dep, q, &row);
     enter(catalogue, q, r, x);
+}
+
+// Reads one more step, x of run r, as place q, and answers true; where there is no such place, run or kind, it answers false and changes nothing. The
+// catalogue and the dependence table are those of the steps read before, at first all zero.
+pub fn read_step(
+    pairs: &[u8; Book::PAIRS_SIZE],
+    q: usize,
+    r: usize,
+    x: Step,
+    catalogue: &mut Table,
+    dep: &mut Table,
+) -> bool
+    ensures { λ answer. ⌜ StepAnswered (now (pairs .entry)) (now (catalogue .entry)) (now (catalogue .exit)) (now (dep .entry)) (now (dep .exit)) q r (as-step x) answer ⌝ }
+{
+    if q >= Book::STEPS {
+        return false;
+    }
+    if r >= Book::RUNS {
+        return false;
+    }
+    if book::wide(x.kind) >= Book::KINDS {
+        return false;
+    }
+    read_in_range(pairs, q, r, x, catalogue, dep);
+    true
 }
 
 // Reads the first n steps of a history, one by one, into tables that mark nothing yet.
@@ -252,7 +277,7 @@ fn read_steps(
         let i = next[r];
         let x = step_at(steps, book::wide(i));
         next[r] = i + 1;
-        read_step(pairs, q, r, x, catalogue, dep);
+        read_in_range(pairs, q, r, x, catalogue, dep);
         q += 1;
     }
 }

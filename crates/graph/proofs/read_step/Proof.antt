@@ -1,25 +1,28 @@
--- The linked places are those on which the place read directly depends. With what they depend on they are its dependence row. The catalogue has one step more.
-use Rattle.graph.proofs.DependenceRows.{step-read}
+-- Each test that fails says that something is out of range; where none does, the step is read.
+use native.Mathlib.Omega.{arith}
+use Rattle.graph.proofs.DependenceRows.{no-place, no-run, no-kind, answered}
 use borrow.Author.Needs.{needs}
 use Rattle.graph.proofs.read_step.Statement.{statement}
 use Rattle.graph.proofs.read_step.Tie as tie
 
-linked-row-requires : tie.Need-linked-row-requires
-linked-row-requires c κs = search needs
-
-dependence-row-requires : tie.Need-dependence-row-requires
-dependence-row-requires c κs = search needs
-
-replace-row-requires : tie.Need-replace-row-requires
-replace-row-requires c κs = search needs
-
-enter-requires : tie.Need-enter-requires
-enter-requires c κs = search needs
-
 returns : tie.Need-returns
-returns c = search step-read
+returns c = no-place _ _ _ _ _ _ (omega (arith, c .if1 .taken))
+
+returns-2 : tie.Need-returns-2
+returns-2 c = search no-run
+
+wide-requires : tie.Need-wide-requires
+wide-requires c κs = search needs
+
+returns-3 : tie.Need-returns-3
+returns-3 c = search no-kind
+
+read-in-range-requires : tie.Need-read-in-range-requires
+read-in-range-requires c κs = search needs
+
+returns-4 : tie.Need-returns-4
+returns-4 c = search answered
 
 pub read-step-spec : {M : Type 1} → statement M
 read-step-spec =
-    tie.close
-    (tie.spec linked-row-requires dependence-row-requires replace-row-requires enter-requires returns)
+    tie.close (tie.spec returns returns-2 wide-requires returns-3 read-in-range-requires returns-4)

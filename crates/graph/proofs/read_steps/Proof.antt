@@ -39,8 +39,8 @@ add-next c = search (needs, read-fits)
 array-write-next : tie.Need-array-write-next Inv-loop μ-loop
 array-write-next c = search needs
 
-read-step-requires : tie.Need-read-step-requires Inv-loop μ-loop
-read-step-requires c κs = search needs
+read-in-range-requires : tie.Need-read-in-range-requires Inv-loop μ-loop
+read-in-range-requires c κs = search needs
 
 add-q : tie.Need-add-q Inv-loop μ-loop
 add-q c = search needs
@@ -69,7 +69,7 @@ read-steps-spec =
     step-at-requires
     add-next
     array-write-next
-    read-step-requires
+    read-in-range-requires
     add-q
     loop-less
     loop-again
