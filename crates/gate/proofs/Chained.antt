@@ -1,7 +1,7 @@
 -- Demand 3: calls made in turn on the record that opening returned over an accepted book. The contracts of the calls make the chain
 -- a run of the plain gate, of which the demand holds.
 use Prim.Native.Nat.{ℕ, suc}
-use mathlib.Core.Path.{_≡_, refl, ap, _∙_}
+use mathlib.Core.Path.{_≡_, refl, subst, ap, _∙_}
 use mathlib.Core.List.{List, [], _∷_, _++_}
 use lib.ListN.{length}
 use Rattle.book.specs.Format.{Bytes, Contents, accepted, read, with-history}
@@ -21,7 +21,7 @@ chain-plain : (c : Contents) {g h : Gate} {xs : List Call} {bs : List Answer} �
 chain-plain c none y e = no-calls
 chain-plain c {g} (link {h = h} {x = x} a w k) y e =
     let v = sound-call y w in
-    let p : PlainCall (with-history c []) (state-of g) x (answer-of a) (state-of h) = rw e at (v .plain) in
+    let p = subst (λ b. PlainCall b (state-of g) x (answer-of a) (state-of h)) e (v .plain) in
     next-call (call-history c [] p) (chain-plain c k (v .sound) (v .book ∙ e))
 
 pub chain-book : {g h : Gate} {xs : List Call} {bs : List Answer} → Chain g xs bs h → Sound g → book-of h ≡ book-of g

@@ -4,34 +4,45 @@ use mathlib.Core.Path.{_≡_}
 use mathlib.Core.Bool.{Bool}
 use mathlib.Core.List.{List}
 use lib.ListN.{length}
-use Rattle.theory.specs.Relative.{RelativelySerialOrder}
+use Rattle.theory.specs.Relative.{RelativelySerial, ConflictSerializable, RelativelySerialOrder, RelativelySerializable}
 use Rattle.theory.specs.Graph.{Cycle, Greedy}
 use Rattle.theory.specs.Rows.{Is}
 use Rattle.buffer.specs.Put.{Put}
 use Rattle.book.specs.Format.{Contents, Outcome, refused, accepted}
 use Rattle.book.specs.Numbers.{number}
-use Rattle.book.specs.Meaning.{conflict-of, unit-of, SerialHistory, RelativelyAtomicHistory, RelativelySerialHistory, ConflictSerializableHistory, RelativelySerializableHistory}
+use Rattle.book.specs.Meaning.{conflict-of, unit-of, SerialHistory, RelativelyAtomicHistory}
 use Rattle.report.specs.Text.{Verdict, passed, tangled, Findings, Report, refused-at, accepted-with, text-of}
 
 -- ---- what is said of a book
 
--- passed, with the order which at each turn takes the smallest place not yet taken whose arc sources are all taken; or tangled, with a cycle.
--- There is one such order (theory's `greedy-unique`)
+-- by the conflict of steps on which it rests: the book's own below
+module _ (conflict-by : ℕ → ℕ → ℕ → ℕ → Bool) (c : Contents) where
+  -- passed, with the order which at each turn takes the smallest place not yet taken whose arc sources are all taken; or tangled, with a cycle.
+  -- There is one such order (theory's `greedy-unique`)
+  abbrev pub VerdictBy : Verdict → Type 0
+  VerdictBy (passed order) = RelativelySerialOrder conflict-by (unit-of c) (c .history) order × Greedy conflict-by (unit-of c) (c .history) order
+  VerdictBy (tangled cycle) = (¬ RelativelySerializable conflict-by (unit-of c) (c .history)) × Cycle conflict-by (unit-of c) (c .history) cycle
+
+  -- the four classes of an accepted book; `Is b P` says that P holds exactly where b is true
+  pub record ClassesBy (serial atomic relserial conflict : Bool) : Type 0 where
+    pub serial-is : Is serial (SerialHistory c)
+    pub atomic-is : Is atomic (RelativelyAtomicHistory c)
+    pub relserial-is : Is relserial (RelativelySerial conflict-by (unit-of c) (c .history))
+    pub conflict-is : Is conflict (ConflictSerializable conflict-by (c .history))
+
+  pub record FindingsBy (w : Findings) : Type 0 where
+    pub done-is : w .done ≡ length (c .history)
+    pub classes-are : ClassesBy (w .serial) (w .atomic) (w .relserial) (w .conflict)
+    pub verdict-is : VerdictBy (w .verdict)
+
 abbrev pub VerdictOn : Contents → Verdict → Type 0
-VerdictOn c (passed order) = RelativelySerialOrder (conflict-of c) (unit-of c) (c .history) order × Greedy (conflict-of c) (unit-of c) (c .history) order
-VerdictOn c (tangled cycle) = (¬ RelativelySerializableHistory c) × Cycle (conflict-of c) (unit-of c) (c .history) cycle
+VerdictOn c = VerdictBy (conflict-of c) c
 
--- the four classes of an accepted book; `Is b P` says that P holds exactly where b is true
-pub record ClassesOn (c : Contents) (serial atomic relserial conflict : Bool) : Type 0 where
-  pub serial-is : Is serial (SerialHistory c)
-  pub atomic-is : Is atomic (RelativelyAtomicHistory c)
-  pub relserial-is : Is relserial (RelativelySerialHistory c)
-  pub conflict-is : Is conflict (ConflictSerializableHistory c)
+abbrev pub ClassesOn : Contents → Bool → Bool → Bool → Bool → Type 0
+ClassesOn c = ClassesBy (conflict-of c) c
 
-pub record FindingsOn (c : Contents) (w : Findings) : Type 0 where
-  pub done-is : w .done ≡ length (c .history)
-  pub classes-are : ClassesOn c (w .serial) (w .atomic) (w .relserial) (w .conflict)
-  pub verdict-is : VerdictOn c (w .verdict)
+abbrev pub FindingsOn : Contents → Findings → Type 0
+FindingsOn c = FindingsBy (conflict-of c) c
 
 -- a refused book gives only its number and place
 abbrev pub ReportOn : Outcome → Report → Type 0
