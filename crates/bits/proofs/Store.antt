@@ -19,12 +19,18 @@ pub in-word : (t : List ℕ) (i row col : ℕ) → row-words * row + col / 64 �
 unfolding bit-at
 in-word t i row col e = ap (λ (x : ℕ). bit (getD t x 0) (col % 64)) (sym e)
 
--- the same of the word w that op makes of the word k of a row and that of a mask
+-- the same of the word w that op makes of the word k of a row of t and that of a row of m
+pub in-rows : (op : ℕ → ℕ → ℕ) (t m : List ℕ) (i n row src k w : ℕ) → row-words * row + k ≡ i → row-words * src + k ≡ n
+    → ((j : ℕ) → j < 64 → bit w j ≡ op (bit (getD t i 0) j) (bit (getD m n 0) j))
+    → (c : ℕ) → c / 64 ≡ k → bit w (c % 64) ≡ op (bit-at t row c) (bit-at m src c)
+in-rows op t m i n row src k w at from bits c e =
+    bits (c % 64) (omega arith) ∙ ap₂ op (in-word t i row c (omega arith)) (in-word m n src c (omega arith))
+
+-- the same where m is a mask
 pub in-words : (op : ℕ → ℕ → ℕ) (t m : List ℕ) (i row k w : ℕ) → row-words * row + k ≡ i
     → ((j : ℕ) → j < 64 → bit w j ≡ op (bit (getD t i 0) j) (bit (getD m k 0) j))
     → (c : ℕ) → c / 64 ≡ k → bit w (c % 64) ≡ op (bit-at t row c) (bit-at m 0 c)
-in-words op t m i row k w at bits c e =
-    bits (c % 64) (omega arith) ∙ ap₂ op (in-word t i row c (omega arith)) (in-word m k 0 c (omega arith))
+in-words op t m i row k w at = in-rows op t m i k row 0 k w at (omega arith)
 
 -- where two tables have the same word, they have the same bits
 same-word : (t u : List ℕ) (row col : ℕ) → getD u (row-words * row + col / 64) 0 ≡ getD t (row-words * row + col / 64) 0

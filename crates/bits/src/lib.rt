@@ -92,14 +92,14 @@ pub fn add_row(m: &mut Row, t: &Table, row: usize)
     }
 }
 
-// Leaves in the row m only the columns of the row of t.
-pub fn keep_row(m: &mut Row, t: &Table, row: usize)
-    requires { ⌜ row < rows ⌝ }
-    ensures { λ r. ⌜ Replaced (now (m .entry)) (now (m .exit)) 0 (intersection (bit-at (now (m .entry)) 0) (bit-at (now (t .entry)) row)) ⌝ }
+// Leaves in the row m only the columns of either of two rows of t.
+pub fn keep_either(m: &mut Row, t: &Table, a: usize, b: usize)
+    requires { ⌜ (a < rows) × (b < rows) ⌝ }
+    ensures { λ r. ⌜ Replaced (now (m .entry)) (now (m .exit)) 0 (intersection (bit-at (now (m .entry)) 0) (union (bit-at (now (t .entry)) a) (bit-at (now (t .entry)) b))) ⌝ }
 {
     sized_row(*m);
     for k in 0..ROW_WORDS {
-        m[k] = m[k] & t[ROW_WORDS * row + k];
+        m[k] = m[k] & (t[ROW_WORDS * a + k] | t[ROW_WORDS * b + k]);
     }
 }
 

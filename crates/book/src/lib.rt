@@ -1,6 +1,7 @@
 // The deck book: its type and limits, its steps, the causes of refusal and their numbers, and the book with another history.
 ghost use mathlib.Core.Path.{_≡_};
 ghost use Prim.Native.Nat.{_+_, _*_, _<_};
+ghost use Rattle.theory.specs.Deck.{home};
 ghost use Rattle.book.specs.Numbers.{number};
 ghost use Rattle.book.specs.Format.{kind-limit, position-limit, run-limit, run-step-limit, step-limit, length-limit, with-history, Allowed};
 ghost use Rattle.book.specs.Book.{code-limit, step-coded, as-step, contents-of, empty-book, Valid, Represents};
@@ -148,6 +149,9 @@ impl Book {
     // Positions are below this.
     pub const POSITIONS: u32 = 65536;
 
+    // The position at which a step homes: it has the same position as any other step.
+    pub const HOME: u16 = 65535;
+
     // The most runs.
     pub const RUNS: usize = 16;
 
@@ -186,10 +190,11 @@ impl Book {
     }
 }
 
-// The limits are the format's.
+// The limits are the format's, and a step homes where the theory's does.
 fn limits()
     ensures { λ r. do ⌜ (← ⟦Book::KINDS⟧ .entry) ≡ kind-limit ⌝ }
     ensures { λ r. do ⌜ (← ⟦Book::POSITIONS⟧ .entry) ≡ position-limit ⌝ }
+    ensures { λ r. do ⌜ (← ⟦Book::HOME⟧ .entry) ≡ home ⌝ }
     ensures { λ r. do ⌜ (← ⟦Book::RUNS⟧ .entry) ≡ run-limit ⌝ }
     ensures { λ r. do ⌜ (← ⟦Book::RUN_STEPS⟧ .entry) ≡ run-step-limit ⌝ }
     ensures { λ r. do ⌜ (← ⟦Book::STEPS⟧ .entry) ≡ step-limit ⌝ }

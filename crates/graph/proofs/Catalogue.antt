@@ -1,5 +1,5 @@
 -- The catalogue of the places read: which places it finds, and what one step more makes of it.
-use Prim.Native.Nat.{ℕ, zero, suc, _+_, _*_, _/_, _%_, _≤_, _<_}
+use Prim.Native.Nat.{ℕ, zero, suc, _+_, _-_, _*_, _/_, _%_, _≤_, _<_}
 use native.Mathlib.Decide.{ℕ-discrete}
 use native.Mathlib.Omega.{arith}
 use mathlib.Core.Path.{_≡_, refl, sym, ap, _∙_}
@@ -8,39 +8,56 @@ use mathlib.Core.Bool.{Bool, true, false, _&&_}
 use mathlib.Core.List.{List, [], _∷_, _++_}
 use lib.ListN.{length, replicate}
 use lib.Seq.{getD-append-seam, take-append-seam}
-use lib.Dec.{T, eqb}
-use borrow.Author.Tests.{eqb-true, eq-eqb}
+use lib.Dec.{T}
+use borrow.Author.Tests.{eqb-true, eq-eqb, ne-eqb}
 use Rattle.bits.specs.Table.{row-bits, rows, bit-at, union, intersection, Marked, Replaced}
 use Rattle.bits.proofs.Store.{bit-at-lt, zeros-bit}
 use Rattle.theory.specs.History.{count, run, ordinal}
-use Rattle.theory.specs.Deck.{Step, step-of, listed, same-position, steps-conflict}
+use Rattle.theory.specs.Deck.{Step, step-of, listed, home, same-position, steps-conflict}
 use Rattle.theory.proofs.Lists.{length-snoc}
+use Rattle.theory.proofs.Places.{Compared, eq-cases}
 use Rattle.theory.proofs.Within.{front}
+use Rattle.theory.proofs.DeckLaws.{same-number, first-homes, second-homes, compared}
 use Rattle.book.specs.Format.{kind-limit}
 use Rattle.book.specs.Book.{pairs-of}
-use Rattle.graph.specs.Catalogue.{base, part, done-step, PartIs, Catalogued, digit-parts, kind-part, run-part, parts}
-use Rattle.graph.specs.inner.Reading.{PartRow, Entered, Has, Finds, Paired, KindAdded, PairedAt, Linked}
+use Rattle.graph.specs.Catalogue.{base, homes, part, done-step, PartIs, Catalogued, digit-parts, kind-part, run-part, home-part, parts}
+use Rattle.graph.specs.inner.Reading.{PartRow, HomesAs, OtherHomes, Entered, Has, Finds, Paired, KindAdded, ConflictsWith, Linked}
 use Rattle.graph.specs.inner.Arcs.{RunRows}
 use Rattle.graph.proofs.Counting.{low, clash, below-next}
-use Rattle.graph.proofs.Rows.{added-from, added, kept-from, kept}
+use Rattle.graph.proofs.Rows.{either-one, added-from, added, kept-from, kept}
 
 -- ---- the rows of the parts
 
 pub part-found : (r : ℕ) (x : Step) (k j v : ℕ) → k ≡ j → v ≡ part r x j → v < base → j < parts → PartRow r x k (k * base + v)
 part-found r x k j v e p l m = rw e (record { is = omega (arith, p); low = omega (arith, p); in-table = omega arith })
 
--- a part that is none of the first five is the run
-pub run-only : (k : ℕ) → k < parts → k ≢ 0 → k ≢ 1 → k ≢ 2 → k ≢ 3 → k ≢ 4 → k ≡ run-part
-run-only zero l n0 n1 n2 n3 n4 = absurd (n0 refl)
-run-only (suc zero) l n0 n1 n2 n3 n4 = absurd (n1 refl)
-run-only (suc (suc zero)) l n0 n1 n2 n3 n4 = absurd (n2 refl)
-run-only (suc (suc (suc zero))) l n0 n1 n2 n3 n4 = absurd (n3 refl)
-run-only (suc (suc (suc (suc zero)))) l n0 n1 n2 n3 n4 = absurd (n4 refl)
-run-only (suc (suc (suc (suc (suc zero))))) l n0 n1 n2 n3 n4 = refl
-run-only (suc (suc (suc (suc (suc (suc k)))))) l n0 n1 n2 n3 n4 = absurd (beyond k l)
+-- a part that is none of the first six is whether the step homes
+pub home-only : (k : ℕ) → k < parts → k ≢ 0 → k ≢ 1 → k ≢ 2 → k ≢ 3 → k ≢ 4 → k ≢ 5 → k ≡ home-part
+home-only zero l n0 n1 n2 n3 n4 n5 = absurd (n0 refl)
+home-only (suc zero) l n0 n1 n2 n3 n4 n5 = absurd (n1 refl)
+home-only (suc (suc zero)) l n0 n1 n2 n3 n4 n5 = absurd (n2 refl)
+home-only (suc (suc (suc zero))) l n0 n1 n2 n3 n4 n5 = absurd (n3 refl)
+home-only (suc (suc (suc (suc zero)))) l n0 n1 n2 n3 n4 n5 = absurd (n4 refl)
+home-only (suc (suc (suc (suc (suc zero))))) l n0 n1 n2 n3 n4 n5 = absurd (n5 refl)
+home-only (suc (suc (suc (suc (suc (suc zero)))))) l n0 n1 n2 n3 n4 n5 = refl
+home-only (suc (suc (suc (suc (suc (suc (suc k))))))) l n0 n1 n2 n3 n4 n5 = absurd (beyond k l)
   where
-    beyond : (k : ℕ) → suc (suc (suc (suc (suc (suc k))))) < parts → ⊥
+    beyond : (k : ℕ) → suc (suc (suc (suc (suc (suc (suc k)))))) < parts → ⊥
     beyond k l = omega arith
+
+-- a step homes or it does not
+homes-cases : (x : Step) → ((homes x ≡ 1) × (x .position ≡ home)) ⊎ ((homes x ≡ 0) × (x .position ≢ home))
+homes-cases x = go (eq-cases (x .position) home)
+  where
+    go : Compared (x .position) home → ((homes x ≡ 1) × (x .position ≡ home)) ⊎ ((homes x ≡ 0) × (x .position ≢ home))
+    go (inl c) = inl (rw (c .0), c .1)
+    go (inr c) = inr (rw (c .0), c .1)
+
+pub homing : (x : Step) → x .position ≡ home → HomesAs x 1
+homing x e = record { is = rw (eq-eqb (x .position) home e); low = omega arith }
+
+pub not-homing : (x : Step) → x .position ≢ home → HomesAs x 0
+not-homing x n = record { is = rw (ne-eqb (x .position) home n); low = omega arith }
 
 -- ---- which places are found
 
@@ -130,10 +147,16 @@ paired-more pairs t m u kind k w a = a .more w
 pub paired-all : (pairs t m : List ℕ) (kind k : ℕ) → Finds (Paired pairs kind k) t m → k ≤ kind-limit → kind-limit ≤ k → Finds (Paired pairs kind kind-limit) t m
 paired-all pairs t m kind k w a b = let e : k ≡ kind-limit = omega arith in rw e at w
 
-module _ (pairs t : List ℕ) (r : ℕ) (x : Step) where
-  pub at-all : (m : List ℕ) (k : ℕ) → Finds (PairedAt pairs r x k) t m → k ≤ digit-parts → digit-parts ≤ k → Finds (PairedAt pairs r x digit-parts) t m
-  at-all m k w a b = let e : k ≡ digit-parts = omega arith in rw e at w
+-- exactly one of the two steps homes
+abbrev OneHomes : Step → Step → Type 0
+OneHomes y x = homes y ≡ 1 - homes x
 
+-- the kind of a step y of run s is paired with that of a step x of run r, and each of their first m parts is the same, or exactly one of them homes
+pub record PairedAt (pairs : List ℕ) (r : ℕ) (x : Step) (m s : ℕ) (y : Step) : Type 0 where
+  pub kinds : Paired pairs (x .kind) kind-limit s y
+  pub same : (k : ℕ) → k < m → (part s y k ≡ part r x k) ⊎ OneHomes y x
+
+module _ (pairs t : List ℕ) (r : ℕ) (x : Step) where
   pub at-none : (m : List ℕ) (kind : ℕ) → kind ≡ x .kind → Finds (Paired pairs kind kind-limit) t m → Finds (PairedAt pairs r x 0) t m
   at-none m kind e v = let w : Finds (Paired pairs (x .kind) kind-limit) t m = rw e at v in record {
     columns = λ runs h c. record {
@@ -142,25 +165,44 @@ module _ (pairs t : List ℕ) (r : ℕ) (x : Step) where
     };
   }
 
-  pub at-keep : (m u : List ℕ) (k row : ℕ) → PartRow r x k row → Replaced m u 0 (intersection (bit-at m 0) (bit-at t row)) → Finds (PairedAt pairs r x k) t m → Finds (PairedAt pairs r x (k + 1)) t u
-  at-keep m u k row d s w = record {
-    columns = λ runs h c. record {
-      sound = λ p i b. from runs h c p i (kept-from m u (bit-at t row) (bit-at-lt t row) s p i b);
-      complete = λ p i a. kept m u (bit-at t row) (bit-at-lt t row) s p i
-          (w .columns runs h c .complete p i (record { inside = a .inside; holds = record { kinds = a .holds .kinds; same = λ j l. a .holds .same j (omega arith) } }))
-          (to-row runs h t c k (part r x k) row p (d .is) (d .low) (d .in-table) i (a .inside) (a .holds .same k (omega arith)));
-    };
-  }
-    where
-      from : (runs : List (List Step)) (h : List ℕ) → Catalogued runs h t → (p : ℕ) → p < row-bits → (bit-at m 0 p ≡ 1) × (bit-at t row p ≡ 1) → Has (PairedAt pairs r x (k + 1)) runs h p
-      from runs h c p i b =
-          let a = w .columns runs h c .sound p i (b .0) in
-          let f = in-row runs h t c k (part r x k) row p (d .is) (d .low) (d .in-table) i (b .1) in
-          record { inside = a .inside; holds = record { kinds = a .holds .kinds; same = λ j l. go j (below-next j k l) (a .holds .same) (f .1) } }
-        where
-          go : {s : ℕ} {y : Step} (j : ℕ) → (j ≡ k) ⊎ (j < k) → ((j : ℕ) → j < k → part s y j ≡ part r x j) → part s y k ≡ part r x k → part s y j ≡ part r x j
-          go j (inl z) f g = rw z g
-          go j (inr l) f g = f j l
+  module _ (m u : List ℕ) (k row other : ℕ) (d : PartRow r x k row) (o : OtherHomes x other) where
+    -- the columns of either row
+    abbrev either : ℕ → ℕ
+    either = union (bit-at t row) (bit-at t other)
+
+    either-lt : (p : ℕ) → either p < 2
+    either-lt p = omega (arith, bit-at-lt t row p, bit-at-lt t other p)
+
+    in-either : (runs : List (List Step)) (h : List ℕ) → Catalogued runs h t → (p : ℕ) → p < row-bits → (bit-at t row p ≡ 1) ⊎ (bit-at t other p ≡ 1)
+        → (part (run h p) (done-step runs h p) k ≡ part r x k) ⊎ OneHomes (done-step runs h p) x
+    in-either runs h c p i (inl b) = inl (in-row runs h t c k (part r x k) row p (d .is) (d .low) (d .in-table) i b .1)
+    in-either runs h c p i (inr b) = inr (in-row runs h t c home-part (1 - homes x) other p (o .is) (omega arith) (o .in-table) i b .1)
+
+    to-either : (runs : List (List Step)) (h : List ℕ) → Catalogued runs h t → (p : ℕ) → p < row-bits → p < length h
+        → (part (run h p) (done-step runs h p) k ≡ part r x k) ⊎ OneHomes (done-step runs h p) x → either p ≡ 1
+    to-either runs h c p i j (inl e) = omega (arith, bit-at-lt t other p, to-row runs h t c k (part r x k) row p (d .is) (d .low) (d .in-table) i j e)
+    to-either runs h c p i j (inr e) = omega (arith, bit-at-lt t row p, to-row runs h t c home-part (1 - homes x) other p (o .is) (omega arith) (o .in-table) i j e)
+
+    pub at-keep : Replaced m u 0 (intersection (bit-at m 0) (union (bit-at t row) (bit-at t other))) → Finds (PairedAt pairs r x k) t m → Finds (PairedAt pairs r x (k + 1)) t u
+    at-keep s w = record {
+      columns = λ runs h c. record {
+        sound = λ p i b. from runs h c p i (kept-from m u either either-lt s p i b);
+        complete = λ p i a. kept m u either either-lt s p i
+            (w .columns runs h c .complete p i (record { inside = a .inside; holds = record { kinds = a .holds .kinds; same = λ j l. a .holds .same j (omega arith) } }))
+            (to-either runs h c p i (a .inside) (a .holds .same k (omega arith)));
+      };
+    }
+      where
+        from : (runs : List (List Step)) (h : List ℕ) → Catalogued runs h t → (p : ℕ) → p < row-bits → (bit-at m 0 p ≡ 1) × (either p ≡ 1) → Has (PairedAt pairs r x (k + 1)) runs h p
+        from runs h c p i b =
+            let a = w .columns runs h c .sound p i (b .0) in
+            let f = in-either runs h c p i (either-one (bit-at t row p) (bit-at t other p) (bit-at-lt t row p) (bit-at-lt t other p) (b .1)) in
+            record { inside = a .inside; holds = record { kinds = a .holds .kinds; same = λ j l. go j (below-next j k l) (a .holds .same) f } }
+          where
+            go : {s : ℕ} {y : Step} (j : ℕ) → (j ≡ k) ⊎ (j < k) → ((j : ℕ) → j < k → (part s y j ≡ part r x j) ⊎ OneHomes y x) → (part s y k ≡ part r x k) ⊎ OneHomes y x
+                → (part s y j ≡ part r x j) ⊎ OneHomes y x
+            go j (inl z) f g = rw z g
+            go j (inr l) f g = f j l
 
 -- steps with the same digits are at the same position
 same-digits : (s r : ℕ) (y x : Step) → ((k : ℕ) → k < digit-parts → part s y k ≡ part r x k) → y .position ≡ x .position
@@ -195,19 +237,56 @@ pub second-of : (b c : Bool) → T (b && c) → T c
 second-of true c t = t
 second-of false c t = absurd t
 
-module _ (pairs : List ℕ) (r : ℕ) (x : Step) where
-  at-conflict : (y : Step) (q : ℕ) → PairedAt pairs r x digit-parts q y → T (steps-conflict (pairs-of pairs) y x)
-  unfolding steps-conflict same-position
-  at-conflict y q a = both (eqb (y .position) (x .position)) _ (rw (eq-eqb (y .position) (x .position) (same-digits q r y x (a .same))) tt) (a .kinds .paired)
+-- two steps are at the same position exactly if each digit is the same or exactly one of them homes
+module _ (s r : ℕ) (y x : Step) where
+  to-same-position : ((k : ℕ) → k < digit-parts → (part s y k ≡ part r x k) ⊎ OneHomes y x) → same-position (y .position) (x .position) ≡ true
+  to-same-position f = go (ℕ-discrete (homes y) (1 - homes x)) (homes-cases y) (homes-cases x)
+    where
+      alike : (k : ℕ) → homes y ≢ 1 - homes x → (part s y k ≡ part r x k) ⊎ OneHomes y x → part s y k ≡ part r x k
+      alike k n (inl e) = e
+      alike k n (inr e) = absurd (n e)
 
-  conflict-at : (y : Step) (q : ℕ) → y .kind < kind-limit → T (steps-conflict (pairs-of pairs) y x) → PairedAt pairs r x digit-parts q y
-  unfolding steps-conflict same-position
-  conflict-at y q l b = record {
-    kinds = record { low = l; paired = second-of (eqb (y .position) (x .position)) (listed (pairs-of pairs) (y .kind) (x .kind)) b };
-    same = digits-same q r y x (eqb-true (y .position) (x .position) (is-true _ (first-of (eqb (y .position) (x .position)) (listed (pairs-of pairs) (y .kind) (x .kind)) b)));
+      go : Dec (homes y ≡ 1 - homes x) → ((homes y ≡ 1) × (y .position ≡ home)) ⊎ ((homes y ≡ 0) × (y .position ≢ home))
+          → ((homes x ≡ 1) × (x .position ≡ home)) ⊎ ((homes x ≡ 0) × (x .position ≢ home)) → same-position (y .position) (x .position) ≡ true
+      go (yes e) (inl a) c = first-homes (y .position) (x .position) (a .1)
+      go (yes e) (inr a) (inl c) = second-homes (y .position) (x .position) (c .1)
+      go (yes e) (inr a) (inr c) = absurd (let z : _≡_ {A = ℕ} 0 1 = omega (arith, a .0, c .0) in omega arith)
+      go (no n) a c = same-number (y .position) (x .position) (same-digits s r y x (λ k l. alike k n (f k l)))
+
+  from-same-position : same-position (y .position) (x .position) ≡ true → (k : ℕ) → k < digit-parts → (part s y k ≡ part r x k) ⊎ OneHomes y x
+  from-same-position e k l = go (homes-cases y) (homes-cases x)
+    where
+      go : ((homes y ≡ 1) × (y .position ≡ home)) ⊎ ((homes y ≡ 0) × (y .position ≢ home)) → ((homes x ≡ 1) × (x .position ≡ home)) ⊎ ((homes x ≡ 0) × (x .position ≢ home))
+          → (part s y k ≡ part r x k) ⊎ OneHomes y x
+      go (inl a) (inl c) = inl (digits-same s r y x (a .1 ∙ sym (c .1)) k l)
+      go (inl a) (inr c) = inr (omega (arith, a .0, c .0))
+      go (inr a) (inl c) = inr (omega (arith, a .0, c .0))
+      go (inr a) (inr c) = inl (digits-same s r y x (eqb-true (y .position) (x .position) (sym (compared (y .position) (x .position) (a .1) (c .1)) ∙ e)) k l)
+
+module _ (pairs t : List ℕ) (r : ℕ) (x : Step) where
+  at-conflict : (y : Step) (s : ℕ) → PairedAt pairs r x digit-parts s y → ConflictsWith pairs x s y
+  unfolding steps-conflict
+  at-conflict y s a = both (same-position (y .position) (x .position)) _ (rw (to-same-position s r y x (a .same)) tt) (a .kinds .paired)
+
+  conflict-at : (y : Step) (s : ℕ) → y .kind < kind-limit → ConflictsWith pairs x s y → PairedAt pairs r x digit-parts s y
+  unfolding steps-conflict
+  conflict-at y s l b = record {
+    kinds = record { low = l; paired = second-of (same-position (y .position) (x .position)) (listed (pairs-of pairs) (y .kind) (x .kind)) b };
+    same = from-same-position s r y x (is-true _ (first-of (same-position (y .position) (x .position)) (listed (pairs-of pairs) (y .kind) (x .kind)) b));
   }
 
-module _ (pairs t : List ℕ) (r : ℕ) (x : Step) (m u : List ℕ) (row : ℕ) (d : PartRow r x run-part row) (w : Finds (PairedAt pairs r x digit-parts) t m)
+  pub at-all : (m : List ℕ) (k : ℕ) → Finds (PairedAt pairs r x k) t m → k ≤ digit-parts → digit-parts ≤ k → Finds (ConflictsWith pairs x) t m
+  at-all m k v a b = record {
+    columns = λ runs h c. record {
+      sound = λ p i e. let f = w .columns runs h c .sound p i e in record { inside = f .inside; holds = at-conflict (done-step runs h p) (run h p) (f .holds) };
+      complete = λ p i f. w .columns runs h c .complete p i (record { inside = f .inside; holds = conflict-at (done-step runs h p) (run h p) (c .kinds p (f .inside)) (f .holds) });
+    };
+  }
+    where
+      w : Finds (PairedAt pairs r x digit-parts) t m
+      w = let e : k ≡ digit-parts = omega arith in rw e at v
+
+module _ (pairs t : List ℕ) (r : ℕ) (x : Step) (m u : List ℕ) (row : ℕ) (d : PartRow r x run-part row) (w : Finds (ConflictsWith pairs x) t m)
     (s : Replaced m u 0 (union (bit-at m 0) (bit-at t row))) where
   pub linked-all : Finds (Linked pairs r x) t u
   linked-all = record {
@@ -218,13 +297,13 @@ module _ (pairs t : List ℕ) (r : ℕ) (x : Step) (m u : List ℕ) (row : ℕ) 
   }
     where
       from : (runs : List (List Step)) (h : List ℕ) → Catalogued runs h t → (p : ℕ) → p < row-bits → (bit-at m 0 p ≡ 1) ⊎ (bit-at t row p ≡ 1) → Has (Linked pairs r x) runs h p
-      from runs h c p i (inl b) = let a = w .columns runs h c .sound p i b in record { inside = a .inside; holds = inr (at-conflict pairs r x (done-step runs h p) (run h p) (a .holds)) }
+      from runs h c p i (inl b) = let a = w .columns runs h c .sound p i b in record { inside = a .inside; holds = inr (a .holds) }
       from runs h c p i (inr b) = let f = in-row runs h t c run-part r row p (d .is) (d .low) (d .in-table) i b in record { inside = f .0; holds = inl (f .1) }
 
       to : (runs : List (List Step)) (h : List ℕ) → Catalogued runs h t → (p : ℕ) → p < row-bits → p < length h → Linked pairs r x (run h p) (done-step runs h p)
           → (bit-at m 0 p ≡ 1) ⊎ (bit-at t row p ≡ 1)
       to runs h c p i j (inl e) = inr (to-row runs h t c run-part r row p (d .is) (d .low) (d .in-table) i j e)
-      to runs h c p i j (inr b) = inl (w .columns runs h c .complete p i (record { inside = j; holds = conflict-at pairs r x (done-step runs h p) (run h p) (c .kinds p j) b }))
+      to runs h c p i j (inr b) = inl (w .columns runs h c .complete p i (record { inside = j; holds = b }))
 
 -- ---- one step more
 
@@ -258,7 +337,8 @@ part-few r x (suc (suc zero)) v l e = omega arith
 part-few r x (suc (suc (suc zero))) v l e = omega arith
 part-few r x (suc (suc (suc (suc zero)))) v l e = omega arith
 part-few r x (suc (suc (suc (suc (suc zero))))) v l e = omega arith
-part-few r x (suc (suc (suc (suc (suc (suc k)))))) v l e = omega arith
+part-few r x (suc (suc (suc (suc (suc (suc zero)))))) v l e = omega arith
+part-few r x (suc (suc (suc (suc (suc (suc (suc k))))))) v l e = omega arith
 
 -- the run and the step of the place that is read
 module _ (runs : List (List Step)) (h : List ℕ) (r : ℕ) where

@@ -8,7 +8,7 @@ use mathlib.Core.List.{List}
 use Rattle.bits.specs.Table.{row-bits, bit-at, union, intersection, Replaced}
 use Rattle.bits.proofs.Store.{bit-at-lt}
 
-either-one : (a b : ℕ) → a < 2 → b < 2 → max a b ≡ 1 → (a ≡ 1) ⊎ (b ≡ 1)
+pub either-one : (a b : ℕ) → a < 2 → b < 2 → max a b ≡ 1 → (a ≡ 1) ⊎ (b ≡ 1)
 either-one a b la lb e = go (ℕ-discrete a 1)
   where
     go : Dec (a ≡ 1) → (a ≡ 1) ⊎ (b ≡ 1)

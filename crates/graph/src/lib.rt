@@ -17,9 +17,9 @@ ghost use Rattle.book.specs.Book.{code-limit, as-step, pairs-of, Valid, content
 ghost use Rattle.book.specs.Meaning.{conflict-of, unit-of};
 ghost use Rattle.graph.specs.Marks.{Marks};
 ghost use Rattle.graph.specs.Units.{units-size, UnchangedFrom, UnitTables};
-ghost use Rattle.graph.specs.Catalogue.{digit-parts, parts};
+ghost use Rattle.graph.specs.Catalogue.{parts};
 ghost use Rattle.graph.specs.Dependence.{Blank, StepRead, StepAnswered};
-ghost use Rattle.graph.specs.inner.Reading.{PartRow, Entered, Finds, Paired, KindAdded, PairedAt, Linked, RowFrom, ReadFromCodes};
+ghost use Rattle.graph.specs.inner.Reading.{PartRow, HomesAs, OtherHomes, Entered, Finds, Paired, KindAdded, ConflictsWith, Linked, RowFrom, ReadFromCodes};
 ghost use Rattle.graph.specs.inner.Tables.{places-size, Small, HistoryOf, Declared, NumberAt, StepAt, Starts, RunsRoom, Numbering, Counts, EachBy, RowRoom, RowSet, by-flag, copied-row};
 ghost use Rattle.graph.specs.inner.Arcs.{ArcOf, ArcOfPlaces, RunRows, TablesOf, GainedBy, ArcRows, ArcInput, Rowed};
 ghost use Rattle.bits.specs.Table.{bit-at, intersection};
@@ -37,14 +37,16 @@ const PLACES_SIZE: usize = Book::RUNS * Book::RUN_STEPS;
 // Kinds, runs and the digits of a position are below this.
 const BASE: usize = 16;
 
-// The parts of a step that the catalogue of the places read tells apart: the digits of its position, the lowest first, its kind, its run.
+// The parts of a step that the catalogue of the places read tells apart: the digits of its position, the lowest first, its kind, its run, whether it homes.
 const DIGIT_PARTS: usize = 4;
 
 const KIND_PART: usize = 4;
 
 const RUN_PART: usize = 5;
 
-const PARTS: usize = 6;
+const HOME_PART: usize = 6;
+
+const PARTS: usize = 7;
 
 // These have no effect: their contracts say how long the array is, for functions that hold it by `&mut`.
 fn sized_by_run(t: [u8; Book::RUNS])
@@ -105,6 +107,13 @@ fn is_listed(pairs: &[u8; Book::PAIRS_SIZE], a: usize, b: usize) -> bool
     pairs[b * Book::KINDS + a] != 0
 }
 
+// 1 if the step homes, else 0.
+fn homes(x: Step) -> usize
+    ensures { λ r. ⌜ HomesAs (as-step x) r ⌝ }
+{
+    if x.position == Book::HOME { 1 } else { 0 }
+}
+
 // The catalogue's row of the part k of a step of run r.
 fn part_row(r: usize, x: Step, k: usize) -> usize
     requires { ⌜ (r < run-limit) × (x .kind < kind-limit) × (k < parts) ⌝ }
@@ -126,7 +135,17 @@ fn part_row(r: usize, x: Step, k: usize) -> usize
     if k == KIND_PART {
         return k * BASE + book::wide(x.kind);
     }
-    k * BASE + r
+    if k == RUN_PART {
+        return k * BASE + r;
+    }
+    k * BASE + homes(x)
+}
+
+// The catalogue's row of the places that home if x does not, and of those that do not if x does.
+fn other_homes(x: Step) -> usize
+    ensures { λ row. ⌜ OtherHomes (as-step x) row ⌝ }
+{
+    HOME_PART * BASE + (1 - homes(x))
 }
 
 // Enters the step x of run r as place q.
@@ -165,15 +184,17 @@ fn paired(pairs: &[u8; Book::PAIRS_SIZE], catalogue: &Table, kind: usize) -> Row
     m
 }
 
-// The places that a step x conflicts with where they are of another run: of a kind paired with its own, and with all digits of its position.
+// The places that a step x conflicts with where they are of another run: of a kind paired with its own, and at the same position. That is where each digit
+// is the same, or where exactly one of the two homes; where both home, their digits are the same.
 fn conflicting(pairs: &[u8; Book::PAIRS_SIZE], catalogue: &Table, r: usize, x: Step) -> Row
     requires { ⌜ (r < run-limit) × (x .kind < kind-limit) ⌝ }
-    ensures { λ m. ⌜ Finds (PairedAt (now (pairs .entry)) r (as-step x) digit-parts) (now (catalogue .entry)) m ⌝ }
+    ensures { λ m. ⌜ Finds (ConflictsWith (now (pairs .entry)) (as-step x)) (now (catalogue .entry)) m ⌝ }
 {
+    let other = other_homes(x);
     let mut m = paired(pairs, catalogue, book::wide(x.kind));
     let mut k = 0;
     while k < DIGIT_PARTS {
-        bits::keep_row(&mut m, catalogue, part_row(r, x, k));
+        bits::keep_either(&mut m, catalogue, part_row(r, x, k), other);
         k += 1;
     }
     m

@@ -1,6 +1,6 @@
 -- The definitions of relative serializability. History: places, orders, serial. Relative: conflicts, dependence, units, classes.
--- Graph: arcs, cycles, the order of smallest ready places. Deck: conflict and unit as a deck book gives them. Rows: the twelve histories.
--- Lists: sums. Answers: a test's answer. inner is no part of a statement.
+-- Graph: arcs, cycles, the order of smallest ready places. Deck: conflict and unit as a deck book gives them. Homing: a step at
+-- position 65535. Rows: the twelve histories. Lists: sums. Answers: a test's answer. inner is no part of a statement.
 --
 -- The letters:
 --   h        a history                    l, m     other lists of run numbers: an order of h, what is kept or taken of it
@@ -18,5 +18,6 @@ pub mod History
 pub mod Relative
 pub mod Graph
 pub mod Deck
+pub mod Homing
 pub mod Rows
 pub mod inner

@@ -1,18 +1,21 @@
--- Each turn keeps the places that have one more digit of the position.
+-- Each turn keeps the places that have one more digit of the position, or of which and the step exactly one homes.
 use Prim.Native.Nat.{_≤_, _-_}
 use Rattle.book.specs.Book.{as-step}
 use Rattle.graph.specs.Catalogue.{digit-parts}
-use Rattle.graph.specs.inner.Reading.{Finds, PairedAt}
-use Rattle.graph.proofs.Catalogue.{at-none, at-keep, at-all}
+use Rattle.graph.specs.inner.Reading.{Finds, OtherHomes}
+use Rattle.graph.proofs.Catalogue.{PairedAt, at-none, at-keep, at-all}
 use borrow.Author.Needs.{needs}
 use Rattle.graph.proofs.conflicting.Statement.{statement}
 use Rattle.graph.proofs.conflicting.Tie as tie
 
 abbrev Inv-loop : tie.InvT-loop
-Inv-loop pairs catalogue r x m₀ k₀ m k = (k ≤ digit-parts) × Finds (PairedAt pairs r (as-step x) k) catalogue m
+Inv-loop pairs catalogue r x other m₀ k₀ m k = (k ≤ digit-parts) × Finds (PairedAt pairs r (as-step x) k) catalogue m
 
 abbrev μ-loop : tie.MeasureT-loop
-μ-loop pairs catalogue r x m₀ k₀ m k = digit-parts - k
+μ-loop pairs catalogue r x other m₀ k₀ m k = digit-parts - k
+
+other-homes-requires : tie.Need-other-homes-requires Inv-loop μ-loop
+other-homes-requires c κs = search needs
 
 wide-requires : tie.Need-wide-requires Inv-loop μ-loop
 wide-requires c κs = search needs
@@ -26,8 +29,8 @@ loop-holds c = (search needs, search at-none)
 part-row-requires : tie.Need-part-row-requires Inv-loop μ-loop
 part-row-requires c κs = search needs
 
-keep-row-requires : tie.Need-keep-row-requires Inv-loop μ-loop
-keep-row-requires c κs = search needs
+keep-either-requires : tie.Need-keep-either-requires Inv-loop μ-loop
+keep-either-requires c κs = search needs
 
 add-k : tie.Need-add-k Inv-loop μ-loop
 add-k c = search needs
@@ -47,11 +50,12 @@ conflicting-spec =
     (tie.spec
     Inv-loop
     μ-loop
+    other-homes-requires
     wide-requires
     paired-requires
     loop-holds
     part-row-requires
-    keep-row-requires
+    keep-either-requires
     add-k
     loop-less
     loop-again

@@ -1,7 +1,7 @@
 -- Each return is the row of the part that k is.
 use mathlib.Core.Path.{refl}
 use native.Mathlib.Omega.{arith}
-use Rattle.graph.proofs.Catalogue.{part-found, run-only}
+use Rattle.graph.proofs.Catalogue.{part-found, home-only}
 use borrow.Author.Needs.{needs}
 use Rattle.graph.proofs.part_row.Statement.{statement}
 use Rattle.graph.proofs.part_row.Tie as tie
@@ -64,7 +64,24 @@ add-result-6 : tie.Need-add-result-6
 add-result-6 c = search needs
 
 returns-6 : tie.Need-returns-6
-returns-6 c = part-found _ _ _ 5 _ (run-only _ (omega arith) (c .before .before .before .before .if1 .left) (c .before .before .before .if2 .left) (c .before .before .if3 .left) (c .before .if4 .left) (c .if5 .left)) refl (omega arith) (omega arith)
+returns-6 c = part-found _ _ _ 5 _ (c .if6 .taken) refl (omega arith) (omega arith)
+
+mul-result-7 : tie.Need-mul-result-7
+mul-result-7 c = search needs
+
+homes-requires : tie.Need-homes-requires
+homes-requires c κs = search needs
+
+add-result-7 : tie.Need-add-result-7
+add-result-7 c = search needs
+
+returns-7 : tie.Need-returns-7
+returns-7 c =
+    let d = c .before in
+    part-found _ _ _ 6 _
+    (home-only _ (omega arith) (d .before .before .before .before .before .if1 .left) (d .before .before .before .before .if2 .left) (d .before .before .before .if3 .left) (d .before .before .if4 .left)
+    (d .before .if5 .left) (d .if6 .left))
+    (c .homes .ensures .is) (omega arith) (omega arith)
 
 pub part-row-spec : {M : Type 1} → statement M
 part-row-spec =
@@ -89,4 +106,8 @@ part-row-spec =
     returns-5
     mul-result-6
     add-result-6
-    returns-6)
+    returns-6
+    mul-result-7
+    homes-requires
+    add-result-7
+    returns-7)

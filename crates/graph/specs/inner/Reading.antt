@@ -1,5 +1,5 @@
 -- What the functions that read a step promise one another.
-use Prim.Native.Nat.{ℕ, _+_, _*_, _/_, _%_, _<_}
+use Prim.Native.Nat.{ℕ, _+_, _-_, _*_, _/_, _%_, _<_}
 use mathlib.Core.Path.{_≡_}
 use mathlib.Core.Logic.{_⊎_}
 use mathlib.Core.Bool.{Bool}
@@ -10,10 +10,9 @@ use Rattle.bits.specs.Table.{row-bits, rows, bit-at}
 use Rattle.theory.specs.History.{run}
 use Rattle.theory.specs.Deck.{Step, listed, steps-conflict}
 use Rattle.theory.specs.Relative.{DirectlyDepends, Depends}
-use Rattle.book.specs.Format.{kind-limit}
 use Rattle.book.specs.Book.{pairs-of}
 use Rattle.graph.specs.Marks.{Marks, Columns}
-use Rattle.graph.specs.Catalogue.{base, part, done-step, Catalogued}
+use Rattle.graph.specs.Catalogue.{base, homes, part, home-part, done-step, Catalogued}
 use Rattle.graph.specs.Dependence.{StepsRead}
 use Rattle.graph.specs.inner.Tables.{StepsOf}
 
@@ -21,6 +20,16 @@ use Rattle.graph.specs.inner.Tables.{StepsOf}
 pub record PartRow (r : ℕ) (x : Step) (k row : ℕ) : Type 0 where
   pub is : row ≡ k * base + part r x k
   pub low : part r x k < base
+  pub in-table : row < rows
+
+-- n says whether x homes
+pub record HomesAs (x : Step) (n : ℕ) : Type 0 where
+  pub is : n ≡ homes x
+  pub low : n < 2
+
+-- the row of the places that home if x does not, and of those that do not if x does
+pub record OtherHomes (x : Step) (row : ℕ) : Type 0 where
+  pub is : row ≡ home-part * base + (1 - homes x)
   pub in-table : row < rows
 
 -- u is t with column q in the rows of the first m parts of a step x of run r
@@ -46,14 +55,13 @@ pub record Paired (pairs : List ℕ) (kind m r : ℕ) (y : Step) : Type 0 where
 pub record KindAdded (pairs catalogue : List ℕ) (kind k : ℕ) (m m′ : List ℕ) : Type 0 where
   pub more : Finds (Paired pairs kind k) catalogue m → Finds (Paired pairs kind (k + 1)) catalogue m′
 
--- the kind of a step y of run s is paired with that of a step x of run r, and their first m parts are the same
-pub record PairedAt (pairs : List ℕ) (r : ℕ) (x : Step) (m s : ℕ) (y : Step) : Type 0 where
-  pub kinds : Paired pairs (x .kind) kind-limit s y
-  pub same : (k : ℕ) → k < m → part s y k ≡ part r x k
+-- a step y, of any run s, that conflicts with a step x of another run
+abbrev pub ConflictsWith : List ℕ → Step → ℕ → Step → Type 0
+ConflictsWith pairs x s y = T (steps-conflict (pairs-of pairs) y x)
 
 -- a step y of run s on which a later step x of run r directly depends
 abbrev pub Linked : List ℕ → ℕ → Step → ℕ → Step → Type 0
-Linked pairs r x s y = (s ≡ r) ⊎ T (steps-conflict (pairs-of pairs) y x)
+Linked pairs r x s y = (s ≡ r) ⊎ ConflictsWith pairs x s y
 
 -- ---- the row of a place
 

@@ -1,20 +1,20 @@
--- After k turns the first k words of m are those of the intersection.
-use Prim.Native.Nat.{_-_, min}
+-- After k turns the first k words of m are those of the intersection with the union of the two rows.
+use Prim.Native.Nat.{_-_, min, max}
 use mathlib.Core.Path.{_≡_}
 use native.Mathlib.Omega.{arith}
 use lib.ListN.{length}
-use Rattle.bits.specs.Table.{row-words, bit-at, intersection}
-use Rattle.bits.proofs.Word.{bit-and}
-use Rattle.bits.proofs.Store.{ReplacedUpTo, replaced-none, replaced-all, combined-more, in-word}
+use Rattle.bits.specs.Table.{row-words, bit-at, union, intersection}
+use Rattle.bits.proofs.Word.{bit-and, bit-or}
+use Rattle.bits.proofs.Store.{ReplacedUpTo, replaced-none, replaced-all, combined-more, in-rows}
 use borrow.Author.Needs.{needs}
-use Rattle.bits.proofs.keep_row.Statement.{statement}
-use Rattle.bits.proofs.keep_row.Tie as tie
+use Rattle.bits.proofs.keep_either.Statement.{statement}
+use Rattle.bits.proofs.keep_either.Tie as tie
 
 abbrev Inv-loop : tie.InvT-loop
-Inv-loop m₀ t row k₀ m k = (length m₀ ≡ row-words) × ReplacedUpTo m₀ m 0 (intersection (bit-at m₀ 0) (bit-at t row)) k
+Inv-loop m₀ t a b k₀ m k = (length m₀ ≡ row-words) × ReplacedUpTo m₀ m 0 (intersection (bit-at m₀ 0) (union (bit-at t a) (bit-at t b))) k
 
 abbrev μ-loop : tie.MeasureT-loop
-μ-loop m₀ t row k₀ m k = row-words - k
+μ-loop m₀ t a b k₀ m k = row-words - k
 
 sized-row-requires : tie.Need-sized-row-requires Inv-loop μ-loop
 sized-row-requires c κs = search needs
@@ -43,6 +43,18 @@ element-copy-out-m-2 c = search needs
 mul-m-4 : tie.Need-mul-m-4 Inv-loop μ-loop
 mul-m-4 c = search needs
 
+add-m-2 : tie.Need-add-m-2 Inv-loop μ-loop
+add-m-2 c = search needs
+
+mul-m-5 : tie.Need-mul-m-5 Inv-loop μ-loop
+mul-m-5 c = search needs
+
+element-copy-out-m-3 : tie.Need-element-copy-out-m-3 Inv-loop μ-loop
+element-copy-out-m-3 c = search needs
+
+mul-m-6 : tie.Need-mul-m-6 Inv-loop μ-loop
+mul-m-6 c = search needs
+
 element-write-m : tie.Need-element-write-m Inv-loop μ-loop
 element-write-m c = search needs
 
@@ -54,18 +66,18 @@ loop-less c = search needs
 
 loop-again : tie.Need-loop-again Inv-loop μ-loop
 loop-again c =
-    let h = c .before .before .before in
+    let h = c .before .before .before .before in
     let a = h .before .before .before .args in (
       h .loop .inv .0,
       combined-more min _ _ 0 _ _ _ _ _ (omega arith) (omega arith) (omega arith) (h .loop .inv .1)
-          (bit-and _ _) (λ x e. in-word _ _ (a .row) x (omega arith)),
+          (bit-and _ _) (in-rows max _ _ _ _ (a .a) (a .b) _ _ (omega arith) (omega arith) (λ j l. bit-or _ _ j)),
     )
 
 returns : tie.Need-returns Inv-loop μ-loop
 returns c = replaced-all (omega arith) (c .before .loop .inv .1)
 
-pub keep-row-spec : {M : Type 1} → statement M
-keep-row-spec =
+pub keep-either-spec : {M : Type 1} → statement M
+keep-either-spec =
     tie.close
     (tie.spec
     Inv-loop
@@ -79,6 +91,10 @@ keep-row-spec =
     mul-m-3
     element-copy-out-m-2
     mul-m-4
+    add-m-2
+    mul-m-5
+    element-copy-out-m-3
+    mul-m-6
     element-write-m
     add-k
     loop-less
