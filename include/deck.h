@@ -20,6 +20,7 @@ enum {
     DECK_BOOK = 16384, /* a book has at most so many bytes */
     DECK_KINDS = 16, /* kinds are below this */
     DECK_POSITIONS = 65536, /* positions are below this */
+    DECK_HOME = 65535, /* a step at this position, a homing step, has the same position as any other */
     DECK_RUNS = 16, /* the most runs */
     DECK_RUN_STEPS = 32, /* the most steps in a run */
     DECK_STEPS = 128, /* the most steps in all */

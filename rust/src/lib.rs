@@ -6,6 +6,8 @@ use std::fmt;
 pub const BOOK: usize = 16384;
 /// Kinds are below this.
 pub const KINDS: usize = 16;
+/// A step at this position, a homing step, has the same position as any other.
+pub const HOME: u16 = 65535;
 /// The most runs.
 pub const RUNS: usize = 16;
 /// The most steps in a run.
@@ -326,6 +328,7 @@ mod tests {
         for (name, limit) in [("BOOK", BOOK), ("KINDS", KINDS), ("RUNS", RUNS), ("RUN_STEPS", RUN_STEPS), ("STEPS", STEPS)] {
             has(&format!("DECK_{}", name), limit as u64);
         }
+        has("DECK_HOME", HOME.into());
         for &cause in CAUSES {
             let number = cause as u64;
             let letters = format!("{:?}", cause);
@@ -421,6 +424,17 @@ mod tests {
         assert_eq!([gate.step(0), gate.step(1), gate.step(2)], [Cause::Withdrawn, Cause::AllKept, Cause::NotDeclared].map(Reply::Refused));
         assert_eq!((gate.kept(), gate.withdrawn()), (&[0, 1, 1][..], vec![0]));
         assert_eq!(Gate::open(&[0x45, 0x45]).err(), Some(Refusal { cause: Cause::BytesAfterEnd, place: 1 }));
+    }
+
+    #[test]
+    fn a_homing_step_tangles_what_was_passed() {
+        let (below, homing) = (book("homing-below"), book("homing-tangles"));
+        assert_eq!(judge(&below), Ok(Verdict::Passed(vec![0, 1, 0])));
+        assert!(matches!(judge(&homing), Ok(Verdict::Tangled(_))));
+        for (book, last) in [(below, Reply::Place(2)), (homing, Reply::Refused(Cause::Tangled))] {
+            let mut gate = Gate::open(&book).unwrap();
+            assert_eq!([gate.step(0), gate.step(1), gate.step(0)], [Reply::Place(0), Reply::Place(1), last]);
+        }
     }
 
     #[test]

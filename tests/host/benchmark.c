@@ -98,15 +98,21 @@ static int keep_steps(void) {
 int main(void) {
     static const struct {
         const char *label;
-        unsigned cuts, positions, burst;
+        unsigned cuts, positions, burst, homing;
         int passed;
     } cases[] = {
-        {"uncut, passed", 0, 40, 8, 1},      {"uncut, tangled", 0, 40, 4, 0},   {"half cut, passed", 50, 150, 4, 1},
-        {"half cut, tangled", 50, 30, 2, 0}, {"fully cut, passed", 100, 20, 2, 1}, {"fully cut, much dependence", 100, 4, 2, 1},
+        {"uncut, passed", 0, 40, 8, 0, 1},
+        {"uncut, tangled", 0, 40, 4, 0, 0},
+        {"half cut, passed", 50, 150, 4, 0, 1},
+        {"half cut, tangled", 50, 30, 2, 0, 0},
+        {"fully cut, passed", 100, 20, 2, 0, 1},
+        {"fully cut, much dependence", 100, 4, 2, 0, 1},
+        {"uncut, homing alone, passed", 0, 1, DECK_STEPS, 100, 1},
+        {"half cut, 6% homing, passed", 50, 150, 8, 6, 1}, /* about 1 step in 16 */
     };
     for (size_t k = 0; k < sizeof cases / sizeof *cases; k++) {
-        shape f = {.runs = DECK_RUNS, .fixed = DECK_STEPS / DECK_RUNS, .kinds = 4, .pairs = 50,
-                   .positions = cases[k].positions, .cuts = cases[k].cuts, .burst = cases[k].burst};
+        shape f = {.runs = DECK_RUNS, .fixed = DECK_STEPS / DECK_RUNS, .kinds = 4, .pairs = 50, .positions = cases[k].positions,
+                   .homing = cases[k].homing, .cuts = cases[k].cuts, .burst = cases[k].burst};
         if (!fill(&f, cases[k].passed, 7 + k)) {
             printf("%-28s no such books found\n", cases[k].label);
             continue;

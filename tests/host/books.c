@@ -23,11 +23,15 @@ static uint8_t *put_pairs(source *s, const shape *f, uint8_t *o) {
     return o;
 }
 
-static uint8_t *put_steps(source *s, unsigned steps, unsigned kinds, unsigned positions, unsigned factor, uint8_t *o) {
+static uint8_t *put_steps(source *s, const shape *f, unsigned steps, uint8_t *o) {
     while (steps-- > 0) {
-        unsigned position = below(s, positions) * factor;
+        unsigned position = below(s, f->positions) * (f->factor ? f->factor : 1);
+        if (f->homing && below(s, 100) < f->homing)
+            position = DECK_HOME;
+        else if (f->near && below(s, 100) < f->near)
+            position = DECK_HOME - 1;
         *o++ = 0x53;
-        *o++ = (uint8_t)below(s, kinds);
+        *o++ = (uint8_t)below(s, f->kinds);
         *o++ = (uint8_t)(position >> 8);
         *o++ = (uint8_t)position;
     }
@@ -44,7 +48,7 @@ static uint8_t *put_runs(source *s, const shape *f, unsigned *length, uint8_t *o
         if (total + length[r] > DECK_STEPS)
             length[r] = DECK_STEPS - total;
         total += length[r];
-        o = put_steps(s, length[r], f->kinds, f->positions, f->factor ? f->factor : 1, o);
+        o = put_steps(s, f, length[r], o);
     }
     return o;
 }
@@ -92,6 +96,7 @@ size_t make_book(source *s, const shape *f, uint8_t *out) {
 }
 
 size_t make_long_book(source *s, uint8_t *out) {
+    static const shape any = {.kinds = DECK_KINDS, .positions = DECK_POSITIONS}; /* of the steps */
     const unsigned full = DECK_STEPS / DECK_RUN_STEPS; /* so many of the longest runs have all steps */
     const enum { RUN, RUN_STEP, STEP, BOTH, BYTE } over = below(s, 5);
     unsigned runs = over == RUN ? DECK_RUNS + 1 : over == RUN_STEP ? 1 + below(s, full - 1) : over == STEP ? full + 1 : full;
@@ -107,7 +112,7 @@ size_t make_long_book(source *s, uint8_t *out) {
             steps = over == STEP ? 1 : DECK_RUN_STEPS + 1;
         *o++ = 0x52;
         *o++ = (uint8_t)r;
-        o = put_steps(s, steps, DECK_KINDS, UINT16_MAX + 1, 1, o);
+        o = put_steps(s, &any, steps, o);
     }
     *o++ = 0x45;
     return (size_t)(o - out);
@@ -120,8 +125,10 @@ shape draw_shape(source *s) {
     f.steps = large ? 1 + below(s, DECK_RUN_STEPS) : 2 + below(s, 5);
     f.kinds = 1 + below(s, large ? DECK_KINDS : 4);
     f.pairs = 20 + below(s, 81);
-    f.positions = below(s, 8) == 0 ? UINT16_MAX + 1 : 1 + below(s, large ? 100 : 5);
+    f.positions = below(s, 8) == 0 ? DECK_POSITIONS : 1 + below(s, large ? 100 : 5);
     f.factor = 1u << 4 * below(s, 4); /* so that positions differ in each of their digits to base 16 */
+    f.homing = below(s, 2) ? 0 : below(s, 8) == 0 ? 100 : 1 + below(s, below(s, 2) ? 10 : 100);
+    f.near = below(s, 4) ? 0 : 1 + below(s, 50);
     f.cuts = below(s, 4) == 0 ? 0 : below(s, 101);
     f.burst = 1 + below(s, below(s, 2) ? 2 : f.steps);
     f.undone = 25;
@@ -174,21 +181,47 @@ int expect(int ok, const char *what) {
     return ok;
 }
 
-int test_books(uint64_t seed, long books, void (*test)(source *s, const uint8_t *book, size_t len)) {
-    static uint8_t book[BOOK_ROOM];
+static uint8_t book[BOOK_ROOM]; /* the book at hand */
+static long passed, failed; /* books */
+
+/* Counts the book at hand, which has that label, and prints what was not ok of it. */
+static void count_book(const char *label) {
+    passed += !fault;
+    failed += fault != NULL;
+    if (fault)
+        printf("%s: %s\n", label, fault);
+    fault = NULL;
+}
+
+void test_files(uint64_t seed, char **files, book_test *test) {
     source s = {seed};
-    long failed = 0;
+    for (; *files; files++) {
+        FILE *f = fopen(*files, "rb");
+        size_t len = f ? fread(book, 1, sizeof book, f) : 0;
+        if (expect(f && !ferror(f) && !fclose(f), "cannot be read"))
+            test(&s, book, len);
+        count_book(*files);
+    }
+}
+
+int test_books(uint64_t seed, long books, book_test *test) {
+    source s = {seed};
     for (long k = 0; k < books; k++) {
+        char label[32];
         shape f = draw_shape(&s);
         size_t len = k % 50 ? make_book(&s, &f, book) : make_long_book(&s, book);
         if (k % 2)
             len = damage(&s, book, len);
-        fault = NULL;
         test(&s, book, len);
-        failed += fault != NULL;
-        if (fault)
-            printf("book %ld: %s\n", k, fault);
+        snprintf(label, sizeof label, "book %ld", k);
+        count_book(label);
     }
-    printf("%ld passed, %ld failed\n", books - failed, failed);
+    printf("%ld passed, %ld failed\n", passed, failed);
     return failed != 0;
+}
+
+int none(long count, const char *text, const char *where) {
+    if (!count)
+        printf("%s: no book %s\n", text, where);
+    return !count;
 }

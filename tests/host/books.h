@@ -22,6 +22,8 @@ typedef struct {
     unsigned pairs; /* percent of the pairs of kinds that conflict */
     unsigned positions; /* positions are numbers below this */
     unsigned factor; /* times this, modulo 65536; 0 stands for 1 */
+    unsigned homing; /* percent of the steps that are at DECK_HOME instead */
+    unsigned near; /* percent of the others that are at the position before it */
     unsigned cuts; /* percent of the cuts */
     unsigned burst; /* done steps of one run in a row, at most */
     unsigned undone; /* percent of the histories that stop early */
@@ -42,8 +44,18 @@ size_t damage(source *s, uint8_t *book, size_t len);
 /* One thing that a test expects of the book at hand, and what it is: the book fails where it is not ok. Answers ok. */
 int expect(int ok, const char *what);
 
+/* A test of one book, which may draw from the source. */
+typedef void book_test(source *s, const uint8_t *book, size_t len);
+
+/* Makes the test on the book in each of these files, of raw bytes; the list ends in a null pointer. Prints the first thing that was not ok of each
+   book that failed; a file that cannot be read fails too. */
+void test_files(uint64_t seed, char **files, book_test *test);
+
 /* Makes the test on so many books from a seed, whole, damaged and over the limits. Prints the first thing that was not ok of each book that failed,
-   and 'N passed, M failed', a count of books; the status of a program. */
-int test_books(uint64_t seed, long books, void (*test)(source *s, const uint8_t *book, size_t len));
+   and 'N passed, M failed', a count of books, those of test_files before it included; the status of a program. */
+int test_books(uint64_t seed, long books, book_test *test);
+
+/* 1 and a printed line where there were no such books. */
+int none(long count, const char *text, const char *where);
 
 #endif

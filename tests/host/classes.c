@@ -110,13 +110,6 @@ static void check(source *s, const uint8_t *book, size_t len) {
     }
 }
 
-/* 1 and a printed line where there were no such books. */
-static int none(long count, const char *text, const char *where) {
-    if (!count)
-        printf("%s: no book %s\n", text, where);
-    return !count;
-}
-
 int main(void) {
     int status = test_books(20261117, BOOKS, check);
     for (int i = 0; i < INCLUSIONS; i++) {

@@ -97,6 +97,7 @@ plain_refusal plain_read(const uint8_t *s, size_t len, plain_book *b) {
     progress p = {0, -1, -1};
     size_t at = 0;
     memset(b, 0, sizeof *b);
+    b->home = DECK_HOME;
     if (len > DECK_BOOK)
         return refuse(DECK_BOOK_TOO_LONG, 0);
     while (at < len) {
@@ -167,6 +168,15 @@ size_t plain_write(const plain_book *b, uint8_t *out) {
     return (size_t)(o - out);
 }
 
+/* ---- conflict */
+
+static int same_position(const plain_book *b, int x, int y) { return x == y || x == b->home || y == b->home; }
+
+/* step i of run r and step j of run s, which count from 0 */
+static int steps_conflict(const plain_book *b, int r, int i, int s, int j) {
+    return r != s && same_position(b, b->position[r][i], b->position[s][j]) && b->conflicts[b->kind[r][i]][b->kind[s][j]];
+}
+
 /* ---- the graph, for the judge: rows of bits, a run's prefix at a time */
 
 typedef struct {
@@ -189,8 +199,7 @@ static void number_places(const plain_book *b, graph *g) {
 }
 
 static int conflicting(const plain_book *b, const graph *g, int p, int q) {
-    int r = b->history[p], s = b->history[q], i = g->ordinal[p], j = g->ordinal[q];
-    return r != s && b->position[r][i] == b->position[s][j] && b->conflicts[b->kind[r][i]][b->kind[s][j]];
+    return steps_conflict(b, b->history[p], g->ordinal[p], b->history[q], g->ordinal[q]);
 }
 
 static void find_depends(const plain_book *b, graph *g) {
@@ -207,7 +216,7 @@ static void find_depends(const plain_book *b, graph *g) {
             set(&d, p);
         }
         for (int p = 0; p < q; p++)
-            if (position[p] == position[q] && b->history[p] != s && b->conflicts[kind[p]][kind[q]]) {
+            if (same_position(b, position[p], position[q]) && b->history[p] != s && b->conflicts[kind[p]][kind[q]]) {
                 d.w[0] |= g->depends[p].w[0];
                 d.w[1] |= g->depends[p].w[1];
                 set(&d, p);
@@ -313,10 +322,8 @@ static void slow_build(const plain_book *b, const uint8_t *history, int n, slow 
         h->ordinal[p] = (uint8_t)count[history[p]]++;
     }
     for (int q = 0; q < n; q++)
-        for (int p = 0; p < q; p++) {
-            int r = h->run[p], s = h->run[q], i = h->ordinal[p], j = h->ordinal[q];
-            h->depends[p][q] = r == s || (b->position[r][i] == b->position[s][j] && b->conflicts[b->kind[r][i]][b->kind[s][j]]);
-        }
+        for (int p = 0; p < q; p++)
+            h->depends[p][q] = h->run[p] == h->run[q] || steps_conflict(b, h->run[p], h->ordinal[p], h->run[q], h->ordinal[q]);
     for (int k = 0; k < n; k++)
         for (int p = 0; p < k; p++)
             if (h->depends[p][k])
@@ -575,4 +582,5 @@ void plain_gate_of(const deck_gate *record, plain_gate *g) {
     memcpy(b->history, record->kept, sizeof b->history);
     b->runs = (int)record->declared;
     b->n = (int)record->kept_count;
+    b->home = DECK_HOME;
 }

@@ -13,6 +13,7 @@ typedef struct {
     int done[DECK_RUNS];
     uint8_t history[DECK_STEPS];
     int runs, steps, n;
+    int home; /* the position that is the same as any other: DECK_HOME, or -1 for none, as it was before homing */
 } plain_book;
 
 typedef struct {
@@ -20,6 +21,7 @@ typedef struct {
     size_t place;
 } plain_refusal;
 
+/* The book that the bytes are, where they are accepted; its home is DECK_HOME. */
 plain_refusal plain_read(const uint8_t *s, size_t len, plain_book *b);
 
 /* The length of the book's bytes, which go to out. */
@@ -56,7 +58,7 @@ int plain_withdraw(plain_gate *g, int r);
 /* Whether a gate's record is sound: its tables are in range and agree with one another. The calls refuse any other by 26. */
 int plain_sound(const deck_gate *record);
 
-/* The plain gate of a sound record. */
+/* The plain gate of a sound record; its book's home is DECK_HOME. */
 void plain_gate_of(const deck_gate *record, plain_gate *g);
 
 #endif

@@ -1,0 +1,300 @@
+/* The proved calls beside plain.c, on one book: every call, on drawn lists, places and calls to the gate, and on gates' records, as the calls leave them
+   and altered; and the evidence of each verdict. */
+#include "compare.h"
+#include <string.h>
+
+enum { CALLS = 200 }; /* in a list, at most */
+enum { ROOM = DECK_BUFFER + 72 }; /* of each buffer, filled beforehand so that a stray byte shows */
+
+long altered_records[2];
+
+static int untouched(const uint8_t *buffer, size_t from, size_t len, uint8_t fill) {
+    for (size_t i = from; i < len; i++)
+        if (buffer[i] != fill)
+            return 0;
+    return 1;
+}
+
+static void compare_answer(deck_answer a, plain_refusal r, int value, const char *what) {
+    expect(a.number == (uint64_t)r.number && a.place == r.place && a.value == (uint64_t)(r.number ? 0 : value), what);
+}
+
+/* A list that is often nearly right: the order or cycle found, with some places changed. */
+static size_t draw_list(source *s, const uint8_t *found, size_t count, unsigned limit, uint8_t *list) {
+    size_t len = below(s, 3) ? count : below(s, ROOM);
+    for (size_t i = 0; i < len; i++)
+        list[i] = i < count ? found[i] : (uint8_t)below(s, limit + 2);
+    if (len && below(s, 2)) {
+        size_t i = below(s, (unsigned)len), j = below(s, (unsigned)len);
+        uint8_t x = list[i];
+        list[i] = list[j];
+        list[j] = x;
+    }
+    if (len && below(s, 4) == 0)
+        list[below(s, (unsigned)len)] = (uint8_t)draw(s);
+    return len;
+}
+
+static void compare_judge(const uint8_t *book, size_t len, const plain_book *b, plain_refusal r, uint8_t *found, int *count, int *passed) {
+    uint8_t order[ROOM], cycle[ROOM], plain_order[DECK_STEPS], plain_cycle[DECK_STEPS];
+    memset(order, 0xa5, ROOM);
+    memset(cycle, 0x5a, ROOM);
+    deck_judgement j = deck_judge(book, len, order, ROOM, cycle, ROOM);
+    *count = 0;
+    *passed = 0;
+    if (r.number) {
+        expect(j.number == (uint64_t)r.number && j.place == r.place && j.verdict == DECK_REFUSED && j.count == 0, "judge: refusal");
+        expect(untouched(order, 0, ROOM, 0xa5) && untouched(cycle, 0, ROOM, 0x5a), "judge: buffers of a refusal");
+        return;
+    }
+    *passed = plain_judge(b, plain_order, plain_cycle, count);
+    expect(j.number == 0 && j.place == 0 && j.verdict == (*passed ? DECK_PASSED : DECK_TANGLED), "judge: verdict");
+    if (*passed) {
+        expect(j.count == (uint64_t)*count && memcmp(order, plain_order, (size_t)*count) == 0, "judge: order");
+        expect(untouched(order, (size_t)*count, ROOM, 0xa5) && untouched(cycle, 0, ROOM, 0x5a), "judge: buffers of a pass");
+        memcpy(found, order, (size_t)*count);
+    } else {
+        if (!expect(j.count <= DECK_STEPS && plain_cycle_check(b, cycle, j.count), "judge: cycle"))
+            return;
+        *count = (int)j.count;
+        expect(untouched(cycle, j.count, ROOM, 0x5a) && untouched(order, 0, ROOM, 0xa5), "judge: buffers of a tangle");
+        memcpy(found, cycle, j.count);
+    }
+}
+
+static void compare_short_buffers(source *s, const uint8_t *book, size_t len) {
+    uint8_t order[ROOM], cycle[ROOM];
+    size_t a = below(s, DECK_BUFFER), b = below(s, ROOM);
+    memset(order, 1, ROOM);
+    memset(cycle, 1, ROOM);
+    deck_judgement j = below(s, 2) ? deck_judge(book, len, order, a, cycle, b) : deck_judge(book, len, order, b, cycle, a);
+    expect(j.number == DECK_JUDGE_BUFFER_SHORT && j.place == 0 && j.verdict == DECK_REFUSED && j.count == 0, "judge: short buffer");
+    expect(untouched(order, 0, ROOM, 1) && untouched(cycle, 0, ROOM, 1), "judge: short buffers unchanged");
+}
+
+static void compare_writer(source *s, const uint8_t *book, size_t len, plain_refusal r) {
+    static uint8_t out[BOOK_ROOM + 64];
+    memset(out, 0x77, sizeof out);
+    compare_answer(deck_write(book, len, out, sizeof out), r, (int)len, "writer: answer");
+    expect(r.number ? untouched(out, 0, sizeof out, 0x77) : memcmp(out, book, len) == 0 && untouched(out, len, sizeof out, 0x77), "writer: buffer");
+    if (!r.number) {
+        size_t room = below(s, (unsigned)len);
+        memset(out, 0x77, sizeof out);
+        deck_answer a = deck_write(book, len, out, room);
+        expect(a.number == DECK_WRITER_BUFFER_SHORT && a.place == 0 && a.value == 0 && untouched(out, 0, sizeof out, 0x77), "writer: short buffer");
+    }
+}
+
+/* The record is that of the plain gate: sound, with its book, kept list and withdrawn runs, and each listed pair a, b with a at most b. */
+static int same_gate(const deck_gate *live, const plain_gate *g) {
+    plain_gate held;
+    if (!plain_sound(live))
+        return 0;
+    for (int x = 0; x < DECK_KINDS; x++)
+        if (!untouched(live->pairs + x * DECK_KINDS, 0, (size_t)x, 0))
+            return 0;
+    plain_gate_of(live, &held);
+    held.book.home = g->book.home; /* it is no part of a record */
+    return memcmp(&held, g, sizeof held) == 0;
+}
+
+/* Opens a gate over a book, of which the plain gate is this one. */
+static deck_gate compare_opening(const uint8_t *book, size_t len, plain_refusal r, const plain_gate *g) {
+    deck_opened o = deck_open(book, len);
+    expect(o.number == (uint64_t)r.number && o.place == r.place, "gate: opening");
+    expect(same_gate(&o.gate, g), "gate: the record as opened");
+    return o.gate;
+}
+
+/* Opens a gate over a refused book: it has no runs. */
+static void compare_refused_gate(const uint8_t *book, size_t len, plain_refusal r) {
+    plain_gate empty = {.book.home = DECK_HOME};
+    deck_gate live = compare_opening(book, len, r, &empty);
+    expect(deck_step(&live, 0).number == DECK_GATE_NOT_DECLARED, "gate: a step on a gate without runs");
+    expect(deck_withdraw(&live, 0).number == DECK_GATE_NOT_DECLARED, "gate: a withdrawal on a gate without runs");
+}
+
+/* The plain gate's answer to a call, as plain_step and plain_withdraw give it. */
+static int plain_call(plain_gate *g, int step, int run) { return step ? plain_step(g, run) : plain_withdraw(g, run); }
+
+/* Makes a call on the record: compares its answer with the one wanted, given as by plain_call, and every byte of the record after it. */
+static void compare_call(deck_gate *record, int step, int run, int want, const char *what) {
+    deck_gate next = *record;
+    if (want >= 0 && step) {
+        next.kept[next.kept_count++] = (uint8_t)run;
+        next.counts[run]++;
+    } else if (want >= 0)
+        next.withdrawn[run] = 1;
+    deck_answer a = step ? deck_step(record, (uint8_t)run) : deck_withdraw(record, (uint8_t)run);
+    compare_answer(a, (plain_refusal){want < 0 ? -want : 0, 0}, want, what);
+    expect(memcmp(record, &next, sizeof next) == 0, what);
+}
+
+/* Changes a record in one way, after which it may still be sound: some byte, every byte, a flag, a number, a step, a length, a count or a kept step. */
+static void alter_record(source *s, deck_gate *record) {
+    static const uint64_t edges[] = {0, DECK_RUNS, DECK_RUNS + 1, DECK_STEPS, DECK_STEPS + 1, UINT64_MAX};
+    uint64_t *numbers[] = {&record->declared, &record->total, &record->kept_count}, *number = numbers[below(s, 3)];
+    unsigned runs = below(s, 2) ? DECK_RUNS : 2, steps = below(s, 2) ? DECK_STEPS : 4; /* most books have 2 and 4 */
+    unsigned r = below(s, runs), q = below(s, runs), p = below(s, steps);
+    uint8_t *bytes = (uint8_t *)record, length = (uint8_t)below(s, DECK_RUN_STEPS + 2);
+    switch (below(s, 17)) {
+    case 0:
+        bytes[below(s, sizeof *record)] = (uint8_t)draw(s);
+        break;
+    case 1:
+        for (size_t i = 0; i < sizeof *record; i++)
+            bytes[i] = (uint8_t)draw(s);
+        break;
+    case 2:
+        record->pairs[below(s, sizeof record->pairs)] = (uint8_t)below(s, 3);
+        break;
+    case 3:
+        record->cuts[below(s, sizeof record->cuts)] = (uint8_t)below(s, 3);
+        break;
+    case 4:
+        record->withdrawn[r] = (uint8_t)below(s, 3);
+        break;
+    case 5:
+        *number = edges[below(s, sizeof edges / sizeof *edges)];
+        break;
+    case 6:
+        *number += below(s, 2) ? 1 : UINT64_MAX; /* one more or one less */
+        break;
+    case 7:
+        record->steps[p] = (uint32_t)(below(s, DECK_KINDS) * DECK_POSITIONS + (below(s, 2) ? below(s, DECK_POSITIONS) : DECK_HOME));
+        break;
+    case 8:
+        record->steps[p] = DECK_KINDS * DECK_POSITIONS - below(s, 2);
+        break;
+    case 9: /* with the sum of the lengths */
+        record->total += (uint64_t)length - record->lengths[r];
+        record->lengths[r] = length;
+        break;
+    case 10:
+        record->lengths[r] = length;
+        break;
+    case 11:
+        record->counts[r]++;
+        break;
+    case 12: /* with the sum of the counts */
+        record->counts[r]++;
+        record->counts[q]--;
+        break;
+    case 13: /* with its count */
+        record->counts[r]++;
+        record->kept[record->kept_count++ % DECK_STEPS] = (uint8_t)r;
+        break;
+    case 14: /* of no run */
+        record->kept[record->kept_count++ % DECK_STEPS] = DECK_RUNS;
+        break;
+    case 15:
+        record->kept[p] = (uint8_t)r;
+        break;
+    default: /* with both counts */
+        q = record->kept[p] % DECK_RUNS;
+        record->counts[q]--;
+        record->counts[r]++;
+        record->kept[p] = (uint8_t)r;
+    }
+}
+
+/* At times changes a copy of the record and makes a withdrawal and a step on it: where the copy is sound as on its plain gate, else refused by 26. */
+static void compare_altered(const deck_gate *live) {
+    static source s = {20261116}; /* of its own, so that the books stay as they are */
+    deck_gate record = *live;
+    plain_gate g;
+    if (below(&s, 4))
+        return;
+    for (unsigned times = 1 + below(&s, 3); times > 0; times--)
+        alter_record(&s, &record);
+    if (memcmp(&record, live, sizeof record) == 0)
+        return;
+    int sound = plain_sound(&record);
+    if (sound)
+        plain_gate_of(&record, &g);
+    altered_records[sound]++;
+    for (int step = 0; step < 2; step++) {
+        int run = (int)below(&s, below(&s, 4) ? DECK_RUNS : UINT8_MAX + 1);
+        compare_call(&record, step, run, sound ? plain_call(&g, step, run) : -DECK_GATE_DAMAGED, "gate: a call on an altered record");
+    }
+}
+
+/* Makes n calls one by one on a record and on the plain gate, and at times on an altered copy of the record; compares the answers of a replay with theirs,
+   and checks demand 3's sentences. */
+static void compare_calls(const uint8_t *book, size_t len, const plain_book *b, const uint8_t *calls, size_t n, const uint8_t *answers) {
+    static uint8_t kept[BOOK_ROOM];
+    uint8_t order[DECK_STEPS], cycle[DECK_STEPS];
+    int refused[UINT8_MAX + 1] = {0}; /* as tangled, or withdrawn */
+    plain_gate g;
+    plain_open(b, &g);
+    deck_gate live = compare_opening(book, len, (plain_refusal){0, 0}, &g);
+    for (size_t i = 0; i < n; i++) {
+        int run = calls[2 * i + 1], step = calls[2 * i] == 0x53, want = plain_call(&g, step, run);
+        int kind = want < 0 ? 2 : step ? 0 : 1, value = want < 0 ? -want : step ? want : 0;
+        compare_altered(&live);
+        compare_call(&live, step, run, want, "gate: a call on the record");
+        expect(same_gate(&live, &g), "gate: the record after a call");
+        expect(answers[2 * i] == kind && answers[2 * i + 1] == value, "gate: an answer");
+        expect(!(step && kind == 0 && refused[run]), "gate: a tangled or withdrawn run admitted later");
+        refused[run] |= step ? want == -DECK_GATE_TANGLED : want >= 0;
+    }
+    size_t size = plain_write(&g.book, kept);
+    expect(deck_judge(kept, size, order, sizeof order, cycle, sizeof cycle).verdict == DECK_PASSED, "gate: the book with the kept list is passed");
+}
+
+/* Makes a list of calls, at times with a byte that is no call or cut off, by replay, and where it is made compares the answers. */
+static void compare_gate(source *s, const uint8_t *book, size_t len, const plain_book *b, plain_refusal r) {
+    static uint8_t calls[2 * CALLS + 1], answers[2 * CALLS + 8];
+    size_t n = below(s, CALLS), bad = 2 * n;
+    for (size_t i = 0; i < n; i++) {
+        calls[2 * i] = below(s, 8) ? 0x53 : 0x57;
+        calls[2 * i + 1] = (uint8_t)(below(s, 50) ? below(s, (unsigned)b->runs + 1) : draw(s));
+    }
+    if (n && below(s, 10) == 0)
+        calls[bad = 2 * (size_t)below(s, (unsigned)n)] = (uint8_t)(0x58 + below(s, 251));
+    int cut = below(s, 10) == 0;
+    memset(answers, 0x33, sizeof answers);
+    deck_answer a = deck_replay(book, len, calls, 2 * n + (size_t)cut, answers, sizeof answers);
+    if (r.number || bad < 2 * n || cut) {
+        expect(a.number == (uint64_t)(r.number ? r.number : DECK_NO_CALL) && a.place == (r.number ? r.place : bad) && a.value == 0, "gate: refused list");
+        expect(untouched(answers, 0, sizeof answers, 0x33), "gate: answers of a refused list");
+        return;
+    }
+    expect(a.number == 0 && a.place == 0 && a.value == n && untouched(answers, 2 * n, sizeof answers, 0x33), "gate: answer");
+    compare_calls(book, len, b, calls, n, answers);
+    if (n) {
+        memset(answers, 0x33, sizeof answers);
+        a = deck_replay(book, len, calls, 2 * n, answers, below(s, (unsigned)(2 * n)));
+        expect(a.number == DECK_ANSWERS_SHORT && a.place == 0 && a.value == 0, "gate: short buffer of answers");
+        expect(untouched(answers, 0, sizeof answers, 0x33), "gate: short buffer of answers unchanged");
+    }
+}
+
+void compare_book(source *s, const uint8_t *book, size_t len, const plain_book *b, plain_refusal r) {
+    uint8_t found[DECK_STEPS], list[ROOM];
+    int count, passed;
+    compare_answer(deck_read(book, len), r, b->n, "reader");
+    compare_judge(book, len, b, r, found, &count, &passed);
+    compare_short_buffers(s, book, len);
+    compare_answer(deck_serial(book, len), r, r.number ? 0 : plain_serial(b), "serial");
+    compare_answer(deck_atomic(book, len), r, r.number ? 0 : plain_atomic(b), "atomic");
+    compare_answer(deck_relserial(book, len), r, r.number ? 0 : plain_relserial(b), "relserial");
+    compare_answer(deck_conflict(book, len), r, r.number ? 0 : plain_conflict(b), "conflict");
+    for (int k = 0; k < 3; k++) {
+        size_t n = draw_list(s, found, passed ? (size_t)count : 0, (unsigned)(r.number ? DECK_RUNS : b->runs), list);
+        compare_answer(deck_check_order(book, len, list, n), r, r.number ? 0 : plain_order_check(b, list, n), "order check");
+        n = draw_list(s, found, passed ? 0 : (size_t)count, (unsigned)(r.number ? DECK_STEPS : b->n), list);
+        compare_answer(deck_check_cycle(book, len, list, n), r, r.number ? 0 : plain_cycle_check(b, list, n), "cycle check");
+        unsigned places = r.number ? ROOM : (unsigned)b->n + 2;
+        size_t x = below(s, places), y = below(s, places);
+        compare_answer(deck_arc(book, len, x, y), r, r.number ? 0 : plain_arc(b, x, y) != 0, "arc test");
+    }
+    if (!r.number && passed)
+        compare_answer(deck_check_order(book, len, found, (size_t)count), r, 1, "order check of the judge's order");
+    if (!r.number && !passed)
+        compare_answer(deck_check_cycle(book, len, found, (size_t)count), r, 1, "cycle check of the judge's cycle");
+    compare_writer(s, book, len, r);
+    compare_gate(s, book, len, b, r);
+    if (r.number)
+        compare_refused_gate(book, len, r);
+}
