@@ -1,9 +1,10 @@
 -- Table: the documents' table of refusals. Demands: the demands, over what the public calls promise. Determined: a call's promise fixes its whole result.
 -- Lazy: the demands exclude document 01's lazy programs. Classes: the classes are nested, as the calls answer.
--- OnePass: the dependence rows while the history is read.
+-- OnePass: the dependence rows while the history is read. OldBooks: books without a homing step give what they gave.
 pub mod Table
 pub mod Demands
 pub mod Determined
 pub mod Lazy
 pub mod Classes
 pub mod OnePass
+pub mod OldBooks

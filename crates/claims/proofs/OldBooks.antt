@@ -1,0 +1,149 @@
+-- Old books give what they gave: their conflict is the earlier one, as a function, and a contract that speaks of the one speaks of the other.
+use Prim.Native.Nat.{ℕ, _*_, _≤_, _<_}
+use native.Mathlib.Omega.{arith}
+use mathlib.Core.Path.{_≡_, sym, subst, _∙_}
+use mathlib.Core.Logic.{_⊎_, inl, inr, _↔_}
+use mathlib.Core.Bool.{Bool}
+use mathlib.Core.List.{List}
+use lib.ListN.{length, take}
+use Rattle.theory.specs.Deck.{Pair, Step, conflict}
+use Rattle.theory.specs.Homing.{before-homing, WithoutHoming}
+use Rattle.theory.specs.Relative.{Depends}
+use Rattle.theory.proofs.DeckLaws.{homing}
+use Rattle.buffer.specs.Put.{Put}
+use Rattle.book.specs.Format.{Contents, Outcome, accepted, step-limit, read}
+use Rattle.book.specs.Meaning.{conflict-of, unit-of}
+use Rattle.book.specs.Book.{pairs-of}
+use Rattle.graph.specs.Marks.{Marks}
+use Rattle.judge.specs.Judged.{JudgedAs}
+use Rattle.judge.specs.Judge.{OutcomeJudged, BytesJudged}
+use Rattle.judge.specs.declared.Judgement.{Judgement}
+use Rattle.classes.specs.Tested.{YesWhere, OutcomeTested, TestedAs}
+use Rattle.classes.specs.declared.Tested.{Tested}
+use Rattle.gate.specs.Plain.{Call, newly-opened, PlainCall, PlainCallBy, PlainCallsBy}
+use Rattle.gate.specs.Gate.{answer-of, book-of, state-of, Sound, CalledAs, on-sound}
+use Rattle.gate.specs.Replay.{calls-of, answers-in, played-by, Replays}
+use Rattle.gate.specs.declared.Gate.{Gate}
+use Rattle.gate.specs.declared.Played.the-variants.{Done}
+use Rattle.gate.specs.declared.Replayed.{Replayed}
+use Rattle.gate.specs.declared.Reply.{Reply}
+use Rattle.gate.proofs.Records.{sound-call}
+use Rattle.gate.proofs.Chained.{opened-plain}
+use Rattle.report.specs.Text.{Report, refused-at, accepted-with, text-of}
+use Rattle.report.specs.Reporting.{FindingsBy, ReportOn, Reports}
+use Rattle.claims.specs.OldBooks.{earlier-of, ReportedBefore, ReplayedBefore, BookAsBefore, CalledBefore, RecordAsBefore, PassAsBefore, OldBooks}
+use Rattle.claims.proofs.OnePass.{one-pass}
+
+both-ways : {A : Type 0} (P : A → Type 0) {x y : A} → x ≡ y → P x ↔ P y
+both-ways P e = (subst P e, subst P (sym e))
+
+module _ (earlier : List Pair → List (List Step) → ℕ → ℕ → ℕ → ℕ → Bool) where
+  module _ (s : List ℕ) (c : Contents) (book : read s ≡ accepted c) (same : conflict-of c ≡ earlier-of earlier c) where
+    -- what is said of the outcome of reading is said of the contents
+    of-contents : (P : Outcome → Type 0) → P (read s) ↔ P (accepted c)
+    of-contents P = both-ways P book
+
+    judged-before : (order order′ cycle cycle′ : List ℕ) (r : Judgement) → step-limit ≤ length order → step-limit ≤ length cycle
+        → BytesJudged order order′ cycle cycle′ s r ↔ JudgedAs (earlier-of earlier c) (unit-of c) (c .history) order order′ cycle cycle′ (r .verdict) (r .count)
+    judged-before order order′ cycle cycle′ r lo lc = (
+      λ w. there .0 (on .0 (w .long lo lc)),
+      λ j. record { short = λ h. absurd (not-short h); long = λ _ _. on .1 (there .1 j) },
+    )
+      where
+        on : OutcomeJudged order order′ cycle cycle′ (read s) r ↔ OutcomeJudged order order′ cycle cycle′ (accepted c) r
+        on = of-contents (λ o. OutcomeJudged order order′ cycle cycle′ o r)
+
+        there : JudgedAs (conflict-of c) (unit-of c) (c .history) order order′ cycle cycle′ (r .verdict) (r .count)
+            ↔ JudgedAs (earlier-of earlier c) (unit-of c) (c .history) order order′ cycle cycle′ (r .verdict) (r .count)
+        there = both-ways (λ k. JudgedAs k (unit-of c) (c .history) order order′ cycle cycle′ (r .verdict) (r .count)) same
+
+        not-short : (length order < step-limit) ⊎ (length cycle < step-limit) → ⊥
+        not-short (inl h) = omega arith
+        not-short (inr h) = omega arith
+
+    tested-before : (P : (ℕ → ℕ → ℕ → ℕ → Bool) → Contents → Type 0) (r : Tested) → TestedAs (λ b. P (conflict-of b) b) s r ↔ TestedAs (λ b. P (earlier-of earlier b) b) s r
+    tested-before P r = (
+      λ w. record { tested = of-contents Before .1 (there .0 (of-contents Now .0 (w .tested))) },
+      λ w. record { tested = of-contents Now .1 (there .1 (of-contents Before .0 (w .tested))) },
+    )
+      where
+        Now : Outcome → Type 0
+        Now o = OutcomeTested o (λ b. P (conflict-of b) b) r
+
+        Before : Outcome → Type 0
+        Before o = OutcomeTested o (λ b. P (earlier-of earlier b) b) r
+
+        there : Now (accepted c) ↔ Before (accepted c)
+        there = both-ways (λ k. YesWhere (P k c) r) same
+
+    reported-before : (text text′ : List ℕ) (n : ℕ) → Reports (read s) text text′ n ↔ ReportedBefore earlier c text text′ n
+    reported-before text text′ n = (
+      λ w. to (w .report) (of-contents (λ o. ReportOn o (w .report)) .0 (w .report-on)) (w .put),
+      λ w. record {
+        report = accepted-with (w .findings);
+        report-on = of-contents (λ o. ReportOn o (accepted-with (w .findings))) .1 (subst (λ k. FindingsBy k c (w .findings)) (sym same) (w .right));
+        put = w .put;
+      },
+    )
+      where
+        to : (v : Report) → ReportOn (accepted c) v → Put (text-of v) text text′ n → ReportedBefore earlier c text text′ n
+        to (refused-at m at) on p = absurd on
+        to (accepted-with w) on p = record { findings = w; right = subst (λ k. FindingsBy k c w) same on; put = p }
+
+    replayed-before : (calls answers answers′ : List ℕ) (r : Replayed) (n : ℕ) → Replays s calls answers answers′ r → played-by (read s) calls (length answers) ≡ Done n
+        → ReplayedBefore earlier c calls answers answers′ (state-of (r .gate))
+    replayed-before calls answers answers′ r n w e =
+        let made = w .calls-made c n book (w .played ∙ e) in
+        let given = answers-in (take (2 * length (calls-of calls)) answers′) in
+        let plain = made .demand .plain in
+        record { given = given; reached = subst (λ k. PlainCallsBy k c newly-opened (calls-of calls) given (state-of (r .gate))) same plain; buffer = made .buffer given _ plain }
+
+    book-as-before : BookAsBefore earlier s c
+    book-as-before = record {
+      judging = judged-before;
+      deck-judging = λ order order′ cycle cycle′ r lo lc. (
+        λ w. record { judgement = w .judgement; promise = judged-before order order′ cycle cycle′ (w .judgement) lo lc .0 (w .promise); numbers = w .numbers },
+        λ w. record { judgement = w .judgement; promise = judged-before order order′ cycle cycle′ (w .judgement) lo lc .1 (w .promise); numbers = w .numbers },
+      );
+      testing = tested-before;
+      deck-testing = λ P r. (
+        λ w. record { tested = w .tested; promise = tested-before P (w .tested) .0 (w .promise); numbers = w .numbers },
+        λ w. record { tested = w .tested; promise = tested-before P (w .tested) .1 (w .promise); numbers = w .numbers },
+      );
+      reporting = reported-before;
+      plain-call = λ g h x a. both-ways (λ k. PlainCallBy k c g x a h) same;
+      plain-calls = λ g h calls answers. both-ways (λ k. PlainCallsBy k c g calls answers h) same;
+      calling-in-turn = λ o w calls answers g k. subst (λ k. PlainCallsBy k c newly-opened calls answers (state-of g)) same (opened-plain s c o calls answers g book w k);
+      replaying = replayed-before;
+      deck-replaying = λ calls answers answers′ r n w e. (state-of (w .replayed .gate), replayed-before calls answers answers′ (w .replayed) n (w .promise) e);
+    }
+
+  module _ (g : Gate) (sound : Sound g) (same : conflict-of (book-of g) ≡ earlier-of earlier (book-of g)) where
+    called-before : (h : Gate) (x : Call) (a : Reply) → CalledAs g x a h ↔ CalledBefore earlier g x a h
+    called-before h x a = (
+      λ w. let v = sound-call sound w in record { plain = there .0 (v .plain); book = v .book; sound = v .sound },
+      λ w. on-sound sound (record { plain = there .1 (w .plain); book = w .book; sound = w .sound }),
+    )
+      where
+        there : PlainCall (book-of g) (state-of g) x (answer-of a) (state-of h) ↔ PlainCallBy (earlier-of earlier (book-of g)) (book-of g) (state-of g) x (answer-of a) (state-of h)
+        there = both-ways (λ k. PlainCallBy k (book-of g) (state-of g) x (answer-of a) (state-of h)) same
+
+    record-as-before : RecordAsBefore earlier g
+    record-as-before = record {
+      calling = called-before;
+      deck-calling = λ h x r. (
+        λ w. record { reply = w .reply; promise = called-before h x (w .reply) .0 (w .promise); numbers = w .numbers },
+        λ w. record { reply = w .reply; promise = called-before h x (w .reply) .1 (w .promise); numbers = w .numbers },
+      );
+    }
+
+  pass-as-before : (pairs : List ℕ) (runs : List (List Step)) → conflict (pairs-of pairs) runs ≡ earlier (pairs-of pairs) runs → PassAsBefore earlier pairs runs
+  pass-as-before pairs runs same catalogue dep l c d b e p = subst (λ k. Marks (Depends k l) d) same (one-pass .each-step pairs runs catalogue dep l c d b e p .so-far)
+
+pub old-books : OldBooks
+old-books = record {
+  conflicts = λ c w. homing .old-books (c .pairs) (c .runs) w;
+  books = λ s c e w. book-as-before before-homing s c e (homing .old-books (c .pairs) (c .runs) w);
+  records = λ g y w. record-as-before before-homing g y (homing .old-books (book-of g .pairs) (book-of g .runs) w);
+  passes = λ pairs runs w. pass-as-before before-homing pairs runs (homing .old-books (pairs-of pairs) runs w);
+}

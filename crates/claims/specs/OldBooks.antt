@@ -1,0 +1,124 @@
+-- Old books without 65535 give what they gave (document 02, change 4), as a statement about every call whose contract speaks of conflict: where no step of
+-- the book homes, an answer meets the contract exactly if it meets the one by the conflict from before homing, and what a list of calls on a gate and a
+-- pass over a history give is right by that conflict. The other calls (reader, writer, opening, the tests of serial and relatively atomic) and all
+-- refusals but 23 do not speak of conflict.
+use Prim.Native.Nat.{ℕ, _*_, _≤_}
+use mathlib.Core.Path.{_≡_}
+use mathlib.Core.Logic.{_↔_}
+use mathlib.Core.Bool.{Bool}
+use mathlib.Core.List.{List, [], _++_}
+use lib.ListN.{length, drop}
+use Rattle.theory.specs.Deck.{Pair, Step}
+use Rattle.theory.specs.Homing.{before-homing, WithoutHoming}
+use Rattle.theory.specs.Relative.{Depends}
+use Rattle.buffer.specs.Put.{Put}
+use Rattle.book.specs.Format.{Contents, accepted, step-limit, read}
+use Rattle.book.specs.Meaning.{conflict-of, unit-of}
+use Rattle.book.specs.Book.{pairs-of}
+use Rattle.graph.specs.Marks.{Marks}
+use Rattle.graph.specs.Dependence.{Blank}
+use Rattle.judge.specs.Judged.{verdict-numbers, JudgedAs}
+use Rattle.judge.specs.Judge.{BytesJudged}
+use Rattle.judge.specs.declared.Judgement.{Judgement}
+use Rattle.classes.specs.Tested.{TestedAs}
+use Rattle.classes.specs.declared.Tested.{Tested}
+use Rattle.gate.specs.Plain.{Call, Answer, State, newly-opened, PlainCall, PlainCallBy, PlainCalls, PlainCallsBy}
+use Rattle.gate.specs.Gate.{answer-of, reply-numbers, book-of, state-of, Sound, OpenedAs, CalledAs}
+use Rattle.gate.specs.Chain.{Chain}
+use Rattle.gate.specs.Replay.{calls-of, answers-bytes, played-by, Replays}
+use Rattle.gate.specs.declared.Gate.{Gate}
+use Rattle.gate.specs.declared.Opened.{Opened}
+use Rattle.gate.specs.declared.Played.the-variants.{Done}
+use Rattle.gate.specs.declared.Replayed.{Replayed}
+use Rattle.gate.specs.declared.Reply.{Reply}
+use Rattle.report.specs.Text.{Findings, accepted-with, text-of}
+use Rattle.report.specs.Reporting.{FindingsBy, Reports}
+use Rattle.capi.specs.Numbers.{answered, judged}
+use Rattle.capi.specs.Calls.{TestCall, JudgeCall, GateCall, ReplayCall}
+use Rattle.capi.specs.declared.Answered.{Answered}
+use Rattle.capi.specs.declared.Judged.{Judged}
+use Rattle.claims.specs.OnePass.{Fed}
+
+-- an earlier meaning of conflict, of the listed pairs and the runs of a book
+module _ (earlier : List Pair → List (List Step) → ℕ → ℕ → ℕ → ℕ → Bool) where
+  abbrev pub earlier-of : Contents → ℕ → ℕ → ℕ → ℕ → Bool
+  earlier-of c = earlier (c .pairs) (c .runs)
+
+  -- ---- the calls on a book's bytes
+
+  -- the judge for C: the numbers of a judgement that is right by the earlier conflict
+  pub record DeckJudgedBefore (c : Contents) (order order′ cycle cycle′ : List ℕ) (r : Judged) : Type 0 where
+    pub judgement : Judgement
+    pub promise : JudgedAs (earlier-of c) (unit-of c) (c .history) order order′ cycle cycle′ (judgement .verdict) (judgement .count)
+    pub numbers : r ≡ judged (verdict-numbers (judgement .verdict)) (judgement .count)
+
+  -- the buffer has the text of findings that are right by the earlier conflict
+  pub record ReportedBefore (c : Contents) (text text′ : List ℕ) (n : ℕ) : Type 0 where
+    pub findings : Findings
+    pub right : FindingsBy (earlier-of c) c findings
+    pub put : Put (text-of (accepted-with findings)) text text′ n
+
+  -- the plain gate, by the earlier conflict, gives answers to the calls and is then in the state h; the buffer begins with these, and its other bytes are
+  -- as they were
+  pub record ReplayedBefore (c : Contents) (calls answers answers′ : List ℕ) (h : State) : Type 0 where
+    pub given : List Answer
+    pub reached : PlainCallsBy (earlier-of c) c newly-opened (calls-of calls) given h
+    pub buffer : answers′ ≡ answers-bytes given ++ drop (2 * length (calls-of calls)) answers
+
+  -- of the bytes s of a book with contents c
+  pub record BookAsBefore (s : List ℕ) (c : Contents) : Type 1 where
+    -- the judge, with buffers as long as it asks
+    pub judging : (order order′ cycle cycle′ : List ℕ) (r : Judgement) → step-limit ≤ length order → step-limit ≤ length cycle
+        → BytesJudged order order′ cycle cycle′ s r ↔ JudgedAs (earlier-of c) (unit-of c) (c .history) order order′ cycle cycle′ (r .verdict) (r .count)
+    pub deck-judging : (order order′ cycle cycle′ : List ℕ) (r : Judged) → step-limit ≤ length order → step-limit ≤ length cycle
+        → JudgeCall s order order′ cycle cycle′ r ↔ DeckJudgedBefore c order order′ cycle cycle′ r
+    -- the tests of relatively serial and conflict serializable, the order check, the cycle check and the arc test: P is what they ask of a book by a conflict
+    pub testing : (P : (ℕ → ℕ → ℕ → ℕ → Bool) → Contents → Type 0) (r : Tested) → TestedAs (λ b. P (conflict-of b) b) s r ↔ TestedAs (λ b. P (earlier-of b) b) s r
+    pub deck-testing : (P : (ℕ → ℕ → ℕ → ℕ → Bool) → Contents → Type 0) (r : Answered) → TestCall (λ b. P (conflict-of b) b) s r ↔ TestCall (λ b. P (earlier-of b) b) s r
+    -- the program's text
+    pub reporting : (text text′ : List ℕ) (n : ℕ) → Reports (read s) text text′ n ↔ ReportedBefore c text text′ n
+    -- the plain gate
+    pub plain-call : (g h : State) (x : Call) (a : Answer) → PlainCall c g x a h ↔ PlainCallBy (earlier-of c) c g x a h
+    pub plain-calls : (g h : State) (calls : List Call) (answers : List Answer) → PlainCalls c g calls answers h ↔ PlainCallsBy (earlier-of c) c g calls answers h
+    -- calls made in turn on a gate newly opened over the book
+    pub calling-in-turn : (o : Opened) → OpenedAs (read s) o → (calls : List Call) (answers : List Answer) (g : Gate) → Chain (o .gate) calls answers g
+        → PlainCallsBy (earlier-of c) c newly-opened calls answers (state-of g)
+    -- a replay of calls that are all made
+    pub replaying : (calls answers answers′ : List ℕ) (r : Replayed) (n : ℕ) → Replays s calls answers answers′ r → played-by (read s) calls (length answers) ≡ Done n
+        → ReplayedBefore c calls answers answers′ (state-of (r .gate))
+    pub deck-replaying : (calls answers answers′ : List ℕ) (r : Answered) (n : ℕ) → ReplayCall s calls answers answers′ r → played-by (read s) calls (length answers) ≡ Done n
+        → (h : State) × ReplayedBefore c calls answers answers′ h
+
+  -- ---- the calls on a gate's record
+
+  -- the answer and the next state are the plain gate's by the earlier conflict; the book is the same, and the record at exit is sound too
+  pub record CalledBefore (g : Gate) (x : Call) (a : Reply) (h : Gate) : Type 0 where
+    pub plain : PlainCallBy (earlier-of (book-of g)) (book-of g) (state-of g) x (answer-of a) (state-of h)
+    pub book : book-of h ≡ book-of g
+    pub sound : Sound h
+
+  -- the call for C: the numbers of such an answer
+  pub record DeckCalledBefore (x : Call) (g h : Gate) (r : Answered) : Type 0 where
+    pub reply : Reply
+    pub promise : CalledBefore g x reply h
+    pub numbers : r ≡ answered (reply-numbers reply)
+
+  -- of a sound record g, whether or not calls left it so
+  pub record RecordAsBefore (g : Gate) : Type 0 where
+    pub calling : (h : Gate) (x : Call) (a : Reply) → CalledAs g x a h ↔ CalledBefore g x a h
+    pub deck-calling : (h : Gate) (x : Call) (r : Answered) → GateCall x g h r ↔ DeckCalledBefore x g h r
+
+  -- ---- a pass over a history: the rows after the steps of l
+
+  abbrev pub PassAsBefore : List ℕ → List (List Step) → Type 0
+  PassAsBefore pairs runs = (catalogue dep l c d : List ℕ) → Blank catalogue → Blank dep → Fed pairs runs [] catalogue dep l c d
+      → Marks (Depends (earlier (pairs-of pairs) runs) l) d
+
+-- Old books without 65535 give what they gave.
+pub record OldBooks : Type 1 where
+  -- their conflict is the earlier one,
+  pub conflicts : (c : Contents) → WithoutHoming (c .runs) → conflict-of c ≡ before-homing (c .pairs) (c .runs)
+  -- and with it what every call gives
+  pub books : (s : List ℕ) (c : Contents) → read s ≡ accepted c → WithoutHoming (c .runs) → BookAsBefore before-homing s c
+  pub records : (g : Gate) → Sound g → WithoutHoming (book-of g .runs) → RecordAsBefore before-homing g
+  pub passes : (pairs : List ℕ) (runs : List (List Step)) → WithoutHoming runs → PassAsBefore before-homing pairs runs
