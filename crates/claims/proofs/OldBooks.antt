@@ -142,8 +142,8 @@ module _ (earlier : List Pair → List (List Step) → ℕ → ℕ → ℕ → �
 
 pub old-books : OldBooks
 old-books = record {
-  conflicts = λ c w. homing .old-books (c .pairs) (c .runs) w;
-  books = λ s c e w. book-as-before before-homing s c e (homing .old-books (c .pairs) (c .runs) w);
-  records = λ g y w. record-as-before before-homing g y (homing .old-books (book-of g .pairs) (book-of g .runs) w);
-  passes = λ pairs runs w. pass-as-before before-homing pairs runs (homing .old-books (pairs-of pairs) runs w);
+  conflicts = λ c w. homing .without-homing (c .pairs) (c .runs) w;
+  books = λ s c e w. book-as-before before-homing s c e (homing .without-homing (c .pairs) (c .runs) w);
+  records = λ g y w. record-as-before before-homing g y (homing .without-homing (book-of g .pairs) (book-of g .runs) w);
+  passes = λ pairs runs w. pass-as-before before-homing pairs runs (homing .without-homing (pairs-of pairs) runs w);
 }

@@ -46,18 +46,21 @@ home-only (suc (suc (suc (suc (suc (suc (suc k))))))) l n0 n1 n2 n3 n4 n5 = absu
     beyond k l = omega arith
 
 -- a step homes or it does not
-homes-cases : (x : Step) → ((homes x ≡ 1) × (x .position ≡ home)) ⊎ ((homes x ≡ 0) × (x .position ≢ home))
+abbrev HomesOrNot : Step → Type 0
+HomesOrNot x = ((homes x ≡ 1) × (x .position ≡ home)) ⊎ ((homes x ≡ 0) × (x .position ≢ home))
+
+homes-cases : (x : Step) → HomesOrNot x
 homes-cases x = go (eq-cases (x .position) home)
   where
-    go : Compared (x .position) home → ((homes x ≡ 1) × (x .position ≡ home)) ⊎ ((homes x ≡ 0) × (x .position ≢ home))
+    go : Compared (x .position) home → HomesOrNot x
     go (inl c) = inl (rw (c .0), c .1)
     go (inr c) = inr (rw (c .0), c .1)
 
-pub homing : (x : Step) → x .position ≡ home → HomesAs x 1
-homing x e = record { is = rw (eq-eqb (x .position) home e); low = omega arith }
+pub does-home : (x : Step) → x .position ≡ home → HomesAs x 1
+does-home x e = record { is = rw (eq-eqb (x .position) home e); low = omega arith }
 
-pub not-homing : (x : Step) → x .position ≢ home → HomesAs x 0
-not-homing x n = record { is = rw (ne-eqb (x .position) home n); low = omega arith }
+pub does-not-home : (x : Step) → x .position ≢ home → HomesAs x 0
+does-not-home x n = record { is = rw (ne-eqb (x .position) home n); low = omega arith }
 
 -- ---- which places are found
 
@@ -246,8 +249,7 @@ module _ (s r : ℕ) (y x : Step) where
       alike k n (inl e) = e
       alike k n (inr e) = absurd (n e)
 
-      go : Dec (homes y ≡ 1 - homes x) → ((homes y ≡ 1) × (y .position ≡ home)) ⊎ ((homes y ≡ 0) × (y .position ≢ home))
-          → ((homes x ≡ 1) × (x .position ≡ home)) ⊎ ((homes x ≡ 0) × (x .position ≢ home)) → same-position (y .position) (x .position) ≡ true
+      go : Dec (homes y ≡ 1 - homes x) → HomesOrNot y → HomesOrNot x → same-position (y .position) (x .position) ≡ true
       go (yes e) (inl a) c = first-homes (y .position) (x .position) (a .1)
       go (yes e) (inr a) (inl c) = second-homes (y .position) (x .position) (c .1)
       go (yes e) (inr a) (inr c) = absurd (let z : _≡_ {A = ℕ} 0 1 = omega (arith, a .0, c .0) in omega arith)
@@ -256,8 +258,7 @@ module _ (s r : ℕ) (y x : Step) where
   from-same-position : same-position (y .position) (x .position) ≡ true → (k : ℕ) → k < digit-parts → (part s y k ≡ part r x k) ⊎ OneHomes y x
   from-same-position e k l = go (homes-cases y) (homes-cases x)
     where
-      go : ((homes y ≡ 1) × (y .position ≡ home)) ⊎ ((homes y ≡ 0) × (y .position ≢ home)) → ((homes x ≡ 1) × (x .position ≡ home)) ⊎ ((homes x ≡ 0) × (x .position ≢ home))
-          → (part s y k ≡ part r x k) ⊎ OneHomes y x
+      go : HomesOrNot y → HomesOrNot x → (part s y k ≡ part r x k) ⊎ OneHomes y x
       go (inl a) (inl c) = inl (digits-same s r y x (a .1 ∙ sym (c .1)) k l)
       go (inl a) (inr c) = inr (omega (arith, a .0, c .0))
       go (inr a) (inl c) = inr (omega (arith, a .0, c .0))

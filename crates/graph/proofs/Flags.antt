@@ -46,14 +46,20 @@ once : (b : Bool) → not (eqb (suc-if b 0) 0) ≡ b
 once true = refl
 once false = refl
 
+either-flag : (x y : ℕ) → not (eqb (x + y) 0) ≡ (not (eqb x 0) || not (eqb y 0))
+either-flag x y = go (eq-cases x 0) (eq-cases y 0)
+  where
+    go : Compared x 0 → Compared y 0 → not (eqb (x + y) 0) ≡ (not (eqb x 0) || not (eqb y 0))
+    go (inl c) (inl d) = rw (c .0, d .0, eq-eqb (x + y) 0 (omega (arith, c .1, d .1)))
+    go (inl c) (inr d) = rw (c .0, d .0, ne-eqb (x + y) 0 (λ e. d .1 (omega arith)))
+    go (inr c) d = rw (c .0, ne-eqb (x + y) 0 (λ e. c .1 (omega arith)))
+
 module _ (t : List ℕ) (a b : ℕ) (ha : a < kind-limit) (hb : b < kind-limit) where
   listed-flags : listed (pairs-of t) a b ≡ (not (eqb (getD t (a * kind-limit + b) 0) 0) || not (eqb (getD t (b * kind-limit + a) 0) 0))
   listed-flags =
       listed-count (flagged 0 t) a b ha hb
       ∙ rw (count-flagged t (a * kind-limit + b), count-flagged t (b * kind-limit + a), once (not (eqb (getD t (a * kind-limit + b) 0) 0)), once (not (eqb (getD t (b * kind-limit + a) 0) 0)))
 
-  pub listed-first : (getD t (a * kind-limit + b) 0 ≡ 0 → ⊥) → true ≡ listed (pairs-of t) a b
-  listed-first n = rw (listed-flags, ne-eqb (getD t (a * kind-limit + b) 0) 0 n)
-
-  pub listed-second : getD t (a * kind-limit + b) 0 ≡ 0 → not (eqb (getD t (b * kind-limit + a) 0) 0) ≡ listed (pairs-of t) a b
-  listed-second e = rw (listed-flags, eq-eqb (getD t (a * kind-limit + b) 0) 0 e)
+  -- both flags at once: their sum is 0 where both are
+  pub listed-sum : (x y : ℕ) → x ≡ getD t (a * kind-limit + b) 0 → y ≡ getD t (b * kind-limit + a) 0 → not (eqb (x + y) 0) ≡ listed (pairs-of t) a b
+  listed-sum x y e f = either-flag x y ∙ rw (listed-flags, ← e, ← f)

@@ -101,10 +101,7 @@ fn is_listed(pairs: &[u8; Book::PAIRS_SIZE], a: usize, b: usize) -> bool
     requires { ⌜ (a < kind-limit) × (b < kind-limit) ⌝ }
     ensures { λ r. ⌜ r ≡ listed (pairs-of (now (pairs .entry))) a b ⌝ }
 {
-    if pairs[a * Book::KINDS + b] != 0 {
-        return true;
-    }
-    pairs[b * Book::KINDS + a] != 0
+    book::wide(pairs[a * Book::KINDS + b]) + book::wide(pairs[b * Book::KINDS + a]) != 0
 }
 
 // 1 if the step homes, else 0.

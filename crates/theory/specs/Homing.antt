@@ -35,4 +35,4 @@ pub record Homing : Type 0 where
   pub as-before : (pairs : List Pair) (runs : List (List Step)) (r i s j : ℕ) → step-of runs r i .position ≢ 65535 → step-of runs s j .position ≢ 65535
       → conflict pairs runs r i s j ≡ before-homing pairs runs r i s j
   -- Old books without 65535: their conflict is the earlier one.
-  pub old-books : (pairs : List Pair) (runs : List (List Step)) → WithoutHoming runs → conflict pairs runs ≡ before-homing pairs runs
+  pub without-homing : (pairs : List Pair) (runs : List (List Step)) → WithoutHoming runs → conflict pairs runs ≡ before-homing pairs runs

@@ -1,42 +1,50 @@
--- The pair is listed where its flag is set, one way round or the other.
-use Rattle.graph.proofs.Flags.{listed-first, listed-second}
+-- The pair is listed where one of its flags is set, and the sum of both is then not 0.
+use Rattle.graph.proofs.Flags.{listed-sum}
 use borrow.Author.Needs.{needs}
 use Rattle.graph.proofs.is_listed.Statement.{statement}
 use Rattle.graph.proofs.is_listed.Tie as tie
 
-mul-if1 : tie.Need-mul-if1
-mul-if1 c = search needs
+mul-wide : tie.Need-mul-wide
+mul-wide c = search needs
 
-add-if1 : tie.Need-add-if1
-add-if1 c = search needs
+add-wide : tie.Need-add-wide
+add-wide c = search needs
 
-element-copy-out-if1 : tie.Need-element-copy-out-if1
-element-copy-out-if1 c = search needs
+element-copy-out-wide : tie.Need-element-copy-out-wide
+element-copy-out-wide c = search needs
 
-returns : tie.Need-returns
-returns c = search listed-first
+wide-requires : tie.Need-wide-requires
+wide-requires c κs = search needs
 
-mul-result : tie.Need-mul-result
-mul-result c = search needs
+mul-wide-2 : tie.Need-mul-wide-2
+mul-wide-2 c = search needs
+
+add-wide-2 : tie.Need-add-wide-2
+add-wide-2 c = search needs
+
+element-copy-out-wide-2 : tie.Need-element-copy-out-wide-2
+element-copy-out-wide-2 c = search needs
+
+wide-requires-2 : tie.Need-wide-requires-2
+wide-requires-2 c κs = search needs
 
 add-result : tie.Need-add-result
 add-result c = search needs
 
-element-copy-out-result : tie.Need-element-copy-out-result
-element-copy-out-result c = search needs
-
-returns-2 : tie.Need-returns-2
-returns-2 c = search listed-second
+returns : tie.Need-returns
+returns c = search listed-sum
 
 pub is-listed-spec : {M : Type 1} → statement M
 is-listed-spec =
     tie.close
     (tie.spec
-    mul-if1
-    add-if1
-    element-copy-out-if1
-    returns
-    mul-result
+    mul-wide
+    add-wide
+    element-copy-out-wide
+    wide-requires
+    mul-wide-2
+    add-wide-2
+    element-copy-out-wide-2
+    wide-requires-2
     add-result
-    element-copy-out-result
-    returns-2)
+    returns)
