@@ -108,6 +108,8 @@ int main(void) {
         {"fully cut, passed", 100, 20, 2, 0, 1},
         {"fully cut, much dependence", 100, 4, 2, 0, 1},
         {"uncut, homing alone, passed", 0, 1, DECK_STEPS, 100, 1},
+        {"uncut, homing alone, tangled", 0, 1, 2, 100, 0},
+        {"fully cut, homing alone", 100, 1, 2, 100, 1},
         {"half cut, 6% homing, passed", 50, 150, 8, 6, 1}, /* about 1 step in 16 */
     };
     for (size_t k = 0; k < sizeof cases / sizeof *cases; k++) {

@@ -1,4 +1,4 @@
-/* Deck books for tests and benchmarks, made from a seed, and the loop of a test on many of them. */
+/* Deck books for tests and benchmarks, made from a seed or read from files, and the loop of a test on many of them. */
 #ifndef BOOKS_H
 #define BOOKS_H
 #include "deck.h"

@@ -108,7 +108,7 @@ static deck_gate compare_opening(const uint8_t *book, size_t len, plain_refusal 
 
 /* Opens a gate over a refused book: it has no runs. */
 static void compare_refused_gate(const uint8_t *book, size_t len, plain_refusal r) {
-    plain_gate empty = {.book.home = DECK_HOME};
+    plain_gate empty = {0};
     deck_gate live = compare_opening(book, len, r, &empty);
     expect(deck_step(&live, 0).number == DECK_GATE_NOT_DECLARED, "gate: a step on a gate without runs");
     expect(deck_withdraw(&live, 0).number == DECK_GATE_NOT_DECLARED, "gate: a withdrawal on a gate without runs");

@@ -149,7 +149,7 @@ impl Book {
     // Positions are below this.
     pub const POSITIONS: u32 = 65536;
 
-    // The position at which a step homes: it has the same position as any other step.
+    // A step at this position homes: it has the same position as any other step.
     pub const HOME: u16 = 65535;
 
     // The most runs.

@@ -7,7 +7,7 @@ use mathlib.Core.Bool.{Bool}
 use mathlib.Core.List.{List}
 use lib.ListN.{length, take}
 use Rattle.theory.specs.Deck.{Pair, Step, conflict}
-use Rattle.theory.specs.Homing.{before-homing, WithoutHoming}
+use Rattle.theory.specs.Homing.{before-homing}
 use Rattle.theory.specs.Relative.{Depends}
 use Rattle.theory.proofs.DeckLaws.{homing}
 use Rattle.buffer.specs.Put.{Put}
@@ -143,6 +143,7 @@ module _ (earlier : List Pair → List (List Step) → ℕ → ℕ → ℕ → �
 pub old-books : OldBooks
 old-books = record {
   conflicts = λ c w. homing .without-homing (c .pairs) (c .runs) w;
+  by-conflict = λ c w P. both-ways P (homing .without-homing (c .pairs) (c .runs) w);
   books = λ s c e w. book-as-before before-homing s c e (homing .without-homing (c .pairs) (c .runs) w);
   records = λ g y w. record-as-before before-homing g y (homing .without-homing (book-of g .pairs) (book-of g .runs) w);
   passes = λ pairs runs w. pass-as-before before-homing pairs runs (homing .without-homing (pairs-of pairs) runs w);

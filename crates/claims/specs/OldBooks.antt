@@ -1,7 +1,7 @@
--- Old books without 65535 give what they gave (document 02, change 4), as a statement about every call whose contract speaks of conflict: where no step of
--- the book homes, an answer meets the contract exactly if it meets the one by the conflict from before homing, and what a list of calls on a gate and a
--- pass over a history give is right by that conflict. The other calls (reader, writer, opening, the tests of serial and relatively atomic) and all
--- refusals but 23 do not speak of conflict.
+-- Old books without 65535 give what they gave (document 02, change 4), as a statement about the calls whose contracts speak of conflict: where no step of the
+-- book homes, an answer meets the contract exactly if it meets the one by the conflict from before homing, and what a list of calls on a gate and a pass
+-- over a history give is right by that conflict. The other calls (reader, writer, opening, the tests of serial and relatively atomic, the judge's second
+-- call) and all refusals but 23 do not speak of conflict.
 use Prim.Native.Nat.{ℕ, _*_, _≤_}
 use mathlib.Core.Path.{_≡_}
 use mathlib.Core.Logic.{_↔_}
@@ -72,7 +72,8 @@ module _ (earlier : List Pair → List (List Step) → ℕ → ℕ → ℕ → �
         → BytesJudged order order′ cycle cycle′ s r ↔ JudgedAs (earlier-of c) (unit-of c) (c .history) order order′ cycle cycle′ (r .verdict) (r .count)
     pub deck-judging : (order order′ cycle cycle′ : List ℕ) (r : Judged) → step-limit ≤ length order → step-limit ≤ length cycle
         → JudgeCall s order order′ cycle cycle′ r ↔ DeckJudgedBefore c order order′ cycle cycle′ r
-    -- the tests of relatively serial and conflict serializable, the order check, the cycle check and the arc test: P is what they ask of a book by a conflict
+    -- the tests: P is what one asks of a book b by a conflict k. Relatively serial: RelativelySerial k (unit-of b) (b .history); conflict serializable:
+    -- ConflictSerializable k (b .history); order check, cycle check and arc test: RelativelySerialOrder, Cycle and Arc of k (unit-of b) (b .history)
     pub testing : (P : (ℕ → ℕ → ℕ → ℕ → Bool) → Contents → Type 0) (r : Tested) → TestedAs (λ b. P (conflict-of b) b) s r ↔ TestedAs (λ b. P (earlier-of b) b) s r
     pub deck-testing : (P : (ℕ → ℕ → ℕ → ℕ → Bool) → Contents → Type 0) (r : Answered) → TestCall (λ b. P (conflict-of b) b) s r ↔ TestCall (λ b. P (earlier-of b) b) s r
     -- the program's text
@@ -118,7 +119,10 @@ module _ (earlier : List Pair → List (List Step) → ℕ → ℕ → ℕ → �
 pub record OldBooks : Type 1 where
   -- their conflict is the earlier one,
   pub conflicts : (c : Contents) → WithoutHoming (c .runs) → conflict-of c ≡ before-homing (c .pairs) (c .runs)
-  -- and with it what every call gives
+  -- and so is whatever is said by it, as in the contracts of the calls on a valid book: `graph::dependences`, `graph::arcs`, `judge::judge_book`,
+  -- `judge::passes`, `classes::is_relatively_serial`, `classes::is_conflict_serializable`
+  pub by-conflict : (c : Contents) → WithoutHoming (c .runs) → (P : (ℕ → ℕ → ℕ → ℕ → Bool) → Type 0) → P (conflict-of c) ↔ P (before-homing (c .pairs) (c .runs))
+  -- What the calls on bytes, those on a gate's record, and a pass over a history give
   pub books : (s : List ℕ) (c : Contents) → read s ≡ accepted c → WithoutHoming (c .runs) → BookAsBefore before-homing s c
   pub records : (g : Gate) → Sound g → WithoutHoming (book-of g .runs) → RecordAsBefore before-homing g
   pub passes : (pairs : List ℕ) (runs : List (List Step)) → WithoutHoming runs → PassAsBefore before-homing pairs runs

@@ -17,11 +17,11 @@ use Rattle.theory.specs.Deck.{Step, step-of, listed, home, same-position, steps
 use Rattle.theory.proofs.Lists.{length-snoc}
 use Rattle.theory.proofs.Places.{Compared, eq-cases}
 use Rattle.theory.proofs.Within.{front}
-use Rattle.theory.proofs.DeckLaws.{same-number, first-homes, second-homes, compared}
+use Rattle.theory.proofs.DeckLaws.{same-number, same-where-first-homes, same-where-second-homes, compared}
 use Rattle.book.specs.Format.{kind-limit}
 use Rattle.book.specs.Book.{pairs-of}
 use Rattle.graph.specs.Catalogue.{base, homes, part, done-step, PartIs, Catalogued, digit-parts, kind-part, run-part, home-part, parts}
-use Rattle.graph.specs.inner.Reading.{PartRow, HomesAs, OtherHomes, Entered, Has, Finds, Paired, KindAdded, ConflictsWith, Linked}
+use Rattle.graph.specs.inner.Reading.{PartRow, HomesAs, OtherHomeRow, Entered, Has, Finds, Paired, KindAdded, ConflictsWith, Linked}
 use Rattle.graph.specs.inner.Arcs.{RunRows}
 use Rattle.graph.proofs.Counting.{low, clash, below-next}
 use Rattle.graph.proofs.Rows.{either-one, added-from, added, kept-from, kept}
@@ -168,7 +168,7 @@ module _ (pairs t : List ℕ) (r : ℕ) (x : Step) where
     };
   }
 
-  module _ (m u : List ℕ) (k row other : ℕ) (d : PartRow r x k row) (o : OtherHomes x other) where
+  module _ (m u : List ℕ) (k row other : ℕ) (d : PartRow r x k row) (o : OtherHomeRow x other) where
     -- the columns of either row
     abbrev either : ℕ → ℕ
     either = union (bit-at t row) (bit-at t other)
@@ -250,8 +250,8 @@ module _ (s r : ℕ) (y x : Step) where
       alike k n (inr e) = absurd (n e)
 
       go : Dec (homes y ≡ 1 - homes x) → HomesOrNot y → HomesOrNot x → same-position (y .position) (x .position) ≡ true
-      go (yes e) (inl a) c = first-homes (y .position) (x .position) (a .1)
-      go (yes e) (inr a) (inl c) = second-homes (y .position) (x .position) (c .1)
+      go (yes e) (inl a) c = same-where-first-homes (y .position) (x .position) (a .1)
+      go (yes e) (inr a) (inl c) = same-where-second-homes (y .position) (x .position) (c .1)
       go (yes e) (inr a) (inr c) = absurd (let z : _≡_ {A = ℕ} 0 1 = omega (arith, a .0, c .0) in omega arith)
       go (no n) a c = same-number (y .position) (x .position) (same-digits s r y x (λ k l. alike k n (f k l)))
 

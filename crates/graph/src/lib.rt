@@ -19,7 +19,7 @@ ghost use Rattle.graph.specs.Marks.{Marks};
 ghost use Rattle.graph.specs.Units.{units-size, UnchangedFrom, UnitTables};
 ghost use Rattle.graph.specs.Catalogue.{parts};
 ghost use Rattle.graph.specs.Dependence.{Blank, StepRead, StepAnswered};
-ghost use Rattle.graph.specs.inner.Reading.{PartRow, HomesAs, OtherHomes, Entered, Finds, Paired, KindAdded, ConflictsWith, Linked, RowFrom, ReadFromCodes};
+ghost use Rattle.graph.specs.inner.Reading.{PartRow, HomesAs, OtherHomeRow, Entered, Finds, Paired, KindAdded, ConflictsWith, Linked, RowFrom, ReadFromCodes};
 ghost use Rattle.graph.specs.inner.Tables.{places-size, Small, HistoryOf, Declared, NumberAt, StepAt, Starts, RunsRoom, Numbering, Counts, EachBy, RowRoom, RowSet, by-flag, copied-row};
 ghost use Rattle.graph.specs.inner.Arcs.{ArcOf, ArcOfPlaces, RunRows, TablesOf, GainedBy, ArcRows, ArcInput, Rowed};
 ghost use Rattle.bits.specs.Table.{bit-at, intersection};
@@ -139,8 +139,8 @@ fn part_row(r: usize, x: Step, k: usize) -> usize
 }
 
 // The catalogue's row of the places that home if x does not, and of those that do not if x does.
-fn other_homes(x: Step) -> usize
-    ensures { λ row. ⌜ OtherHomes (as-step x) row ⌝ }
+fn other_home_row(x: Step) -> usize
+    ensures { λ row. ⌜ OtherHomeRow (as-step x) row ⌝ }
 {
     HOME_PART * BASE + (1 - homes(x))
 }
@@ -187,7 +187,7 @@ fn conflicting(pairs: &[u8; Book::PAIRS_SIZE], catalogue: &Table, r: usize, x: S
     requires { ⌜ (r < run-limit) × (x .kind < kind-limit) ⌝ }
     ensures { λ m. ⌜ Finds (ConflictsWith (now (pairs .entry)) (as-step x)) (now (catalogue .entry)) m ⌝ }
 {
-    let other = other_homes(x);
+    let other = other_home_row(x);
     let mut m = paired(pairs, catalogue, book::wide(x.kind));
     let mut k = 0;
     while k < DIGIT_PARTS {

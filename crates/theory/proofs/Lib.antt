@@ -14,7 +14,7 @@
 --   Classes    the classes are nested
 --   OneUnit    001, lemma 1: without cuts, relatively serializable is conflict serializable
 --   Decisions  the classes, the order check and the cycle check are decided
---   DeckLaws   a book's conflict is lawful; lemma 1 for a book without cuts
+--   DeckLaws   a book's conflict is lawful; what a homing step conflicts with; lemma 1 for a book without cuts
 --   Rows       the twelve histories, by computation
 -- Theorem 1: Greedy's turns end with every place taken or with none ready (`Theorem.judged`). In the first case Sorted makes their order a
 -- relatively serial one that agrees (`whole-greedy`); in the second Cycles finds a cycle, and Forward shows that there is no such order.

@@ -2,7 +2,7 @@
 use Prim.Native.Nat.{_≤_, _-_}
 use Rattle.book.specs.Book.{as-step}
 use Rattle.graph.specs.Catalogue.{digit-parts}
-use Rattle.graph.specs.inner.Reading.{Finds, OtherHomes}
+use Rattle.graph.specs.inner.Reading.{Finds, OtherHomeRow}
 use Rattle.graph.proofs.Catalogue.{PairedAt, at-none, at-keep, at-all}
 use borrow.Author.Needs.{needs}
 use Rattle.graph.proofs.conflicting.Statement.{statement}
@@ -14,8 +14,8 @@ Inv-loop pairs catalogue r x other m₀ k₀ m k = (k ≤ digit-parts) × Finds 
 abbrev μ-loop : tie.MeasureT-loop
 μ-loop pairs catalogue r x other m₀ k₀ m k = digit-parts - k
 
-other-homes-requires : tie.Need-other-homes-requires Inv-loop μ-loop
-other-homes-requires c κs = search needs
+other-home-row-requires : tie.Need-other-home-row-requires Inv-loop μ-loop
+other-home-row-requires c κs = search needs
 
 wide-requires : tie.Need-wide-requires Inv-loop μ-loop
 wide-requires c κs = search needs
@@ -50,7 +50,7 @@ conflicting-spec =
     (tie.spec
     Inv-loop
     μ-loop
-    other-homes-requires
+    other-home-row-requires
     wide-requires
     paired-requires
     loop-holds

@@ -28,7 +28,7 @@ pub record HomesAs (x : Step) (n : ℕ) : Type 0 where
   pub low : n < 2
 
 -- the row of the places that home if x does not, and of those that do not if x does
-pub record OtherHomes (x : Step) (row : ℕ) : Type 0 where
+pub record OtherHomeRow (x : Step) (row : ℕ) : Type 0 where
   pub is : row ≡ home-part * base + (1 - homes x)
   pub in-table : row < rows
 
