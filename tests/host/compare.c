@@ -161,7 +161,8 @@ static void alter_record(source *s, deck_gate *record) {
         *number += below(s, 2) ? 1 : UINT64_MAX; /* one more or one less */
         break;
     case 7:
-        record->steps[p] = (uint32_t)(below(s, DECK_KINDS) * DECK_POSITIONS + (below(s, 2) ? below(s, DECK_POSITIONS) : DECK_HOME));
+        record->steps[p] = below(s, 2) ? below(s, DECK_POSITIONS) : DECK_HOME;
+        record->steps[p] += below(s, DECK_KINDS) * DECK_POSITIONS;
         break;
     case 8:
         record->steps[p] = DECK_KINDS * DECK_POSITIONS - below(s, 2);

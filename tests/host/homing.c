@@ -1,8 +1,9 @@
 /* Compares the proved calls with plain.c on the books in the files that are given, of raw bytes, and on many books from a fixed seed, whole, damaged and
    over the limits: an accepted book without a homing step with plain.c as it was before homing, any other with plain.c as it is.
      homing FILE..
-   Prints 'N passed, M failed', a count of books, and how many accepted books there were without a homing step and with one, and for how many of these
-   an answer is another than before homing. It fails where one of these counts is 0, and where no file is given. */
+   Prints 'N passed, M failed', a count of books, and how many accepted books there were without a homing step, how many of them with a step at 65534,
+   how many with a homing step, and for how many of these an answer is another than before homing. It fails where one of these counts is 0, and where no
+   file is given. */
 #include "compare.h"
 #include <stdio.h>
 #include <string.h>
@@ -16,7 +17,7 @@ static struct {
     long books;
 } counts[COUNTS] = {
     [WITHOUT] = {"accepted books without a homing step", 0},
-    [NEAR] = {"  with a step at the position before it", 0},
+    [NEAR] = {"  with a step at position 65534", 0},
     [WITH] = {"accepted books with a homing step", 0},
     [VERDICT] = {"  another verdict than before homing", 0},
     [ORDER] = {"  passed as before, in another order", 0},

@@ -7,7 +7,7 @@ use mathlib.Core.Bool.{Bool}
 use mathlib.Core.List.{List}
 use lib.ListN.{length, take}
 use Rattle.theory.specs.Deck.{Pair, Step, conflict}
-use Rattle.theory.specs.Homing.{before-homing}
+use Rattle.theory.specs.Homing.{before-homing, WithoutHoming}
 use Rattle.theory.specs.Relative.{Depends}
 use Rattle.theory.proofs.DeckLaws.{homing}
 use Rattle.buffer.specs.Put.{Put}
@@ -140,11 +140,14 @@ module _ (earlier : List Pair → List (List Step) → ℕ → ℕ → ℕ → �
   pass-as-before : (pairs : List ℕ) (runs : List (List Step)) → conflict (pairs-of pairs) runs ≡ earlier (pairs-of pairs) runs → PassAsBefore earlier pairs runs
   pass-as-before pairs runs same catalogue dep l c d b e p = subst (λ k. Marks (Depends k l) d) same (one-pass .each-step pairs runs catalogue dep l c d b e p .so-far)
 
+same-conflict : (c : Contents) → WithoutHoming (c .runs) → conflict-of c ≡ before-homing (c .pairs) (c .runs)
+same-conflict c = homing .without-homing (c .pairs) (c .runs)
+
 pub old-books : OldBooks
 old-books = record {
-  conflicts = λ c w. homing .without-homing (c .pairs) (c .runs) w;
-  by-conflict = λ c w P. both-ways P (homing .without-homing (c .pairs) (c .runs) w);
-  books = λ s c e w. book-as-before before-homing s c e (homing .without-homing (c .pairs) (c .runs) w);
-  records = λ g y w. record-as-before before-homing g y (homing .without-homing (book-of g .pairs) (book-of g .runs) w);
+  conflicts = same-conflict;
+  by-conflict = λ c w P. both-ways P (same-conflict c w);
+  books = λ s c e w. book-as-before before-homing s c e (same-conflict c w);
+  records = λ g y w. record-as-before before-homing g y (same-conflict (book-of g) w);
   passes = λ pairs runs w. pass-as-before before-homing pairs runs (homing .without-homing (pairs-of pairs) runs w);
 }

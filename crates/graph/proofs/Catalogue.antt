@@ -154,10 +154,14 @@ paired-all pairs t m kind k w a b = let e : k ≡ kind-limit = omega arith in rw
 abbrev OneHomes : Step → Step → Type 0
 OneHomes y x = homes y ≡ 1 - homes x
 
--- the kind of a step y of run s is paired with that of a step x of run r, and each of their first m parts is the same, or exactly one of them homes
+-- the part k of a step y of run s and of a step x of run r is the same, or exactly one of them homes
+abbrev SamePart : ℕ → Step → ℕ → Step → ℕ → Type 0
+SamePart s y r x k = (part s y k ≡ part r x k) ⊎ OneHomes y x
+
+-- the kind of a step y of run s is paired with that of a step x of run r, and of their first m parts each is the same, or exactly one of them homes
 pub record PairedAt (pairs : List ℕ) (r : ℕ) (x : Step) (m s : ℕ) (y : Step) : Type 0 where
   pub kinds : Paired pairs (x .kind) kind-limit s y
-  pub same : (k : ℕ) → k < m → (part s y k ≡ part r x k) ⊎ OneHomes y x
+  pub same : (k : ℕ) → k < m → SamePart s y r x k
 
 module _ (pairs t : List ℕ) (r : ℕ) (x : Step) where
   pub at-none : (m : List ℕ) (kind : ℕ) → kind ≡ x .kind → Finds (Paired pairs kind kind-limit) t m → Finds (PairedAt pairs r x 0) t m
@@ -177,12 +181,12 @@ module _ (pairs t : List ℕ) (r : ℕ) (x : Step) where
     either-lt p = omega (arith, bit-at-lt t row p, bit-at-lt t other p)
 
     in-either : (runs : List (List Step)) (h : List ℕ) → Catalogued runs h t → (p : ℕ) → p < row-bits → (bit-at t row p ≡ 1) ⊎ (bit-at t other p ≡ 1)
-        → (part (run h p) (done-step runs h p) k ≡ part r x k) ⊎ OneHomes (done-step runs h p) x
+        → SamePart (run h p) (done-step runs h p) r x k
     in-either runs h c p i (inl b) = inl (in-row runs h t c k (part r x k) row p (d .is) (d .low) (d .in-table) i b .1)
     in-either runs h c p i (inr b) = inr (in-row runs h t c home-part (1 - homes x) other p (o .is) (omega arith) (o .in-table) i b .1)
 
     to-either : (runs : List (List Step)) (h : List ℕ) → Catalogued runs h t → (p : ℕ) → p < row-bits → p < length h
-        → (part (run h p) (done-step runs h p) k ≡ part r x k) ⊎ OneHomes (done-step runs h p) x → either p ≡ 1
+        → SamePart (run h p) (done-step runs h p) r x k → either p ≡ 1
     to-either runs h c p i j (inl e) = omega (arith, bit-at-lt t other p, to-row runs h t c k (part r x k) row p (d .is) (d .low) (d .in-table) i j e)
     to-either runs h c p i j (inr e) = omega (arith, bit-at-lt t row p, to-row runs h t c home-part (1 - homes x) other p (o .is) (omega arith) (o .in-table) i j e)
 
@@ -202,8 +206,8 @@ module _ (pairs t : List ℕ) (r : ℕ) (x : Step) where
             let f = in-either runs h c p i (either-one (bit-at t row p) (bit-at t other p) (bit-at-lt t row p) (bit-at-lt t other p) (b .1)) in
             record { inside = a .inside; holds = record { kinds = a .holds .kinds; same = λ j l. go j (below-next j k l) (a .holds .same) f } }
           where
-            go : {s : ℕ} {y : Step} (j : ℕ) → (j ≡ k) ⊎ (j < k) → ((j : ℕ) → j < k → (part s y j ≡ part r x j) ⊎ OneHomes y x) → (part s y k ≡ part r x k) ⊎ OneHomes y x
-                → (part s y j ≡ part r x j) ⊎ OneHomes y x
+            go : {s : ℕ} {y : Step} (j : ℕ) → (j ≡ k) ⊎ (j < k) → ((j : ℕ) → j < k → SamePart s y r x j) → SamePart s y r x k
+                → SamePart s y r x j
             go j (inl z) f g = rw z g
             go j (inr l) f g = f j l
 
@@ -242,10 +246,10 @@ second-of false c t = absurd t
 
 -- two steps are at the same position exactly if each digit is the same or exactly one of them homes
 module _ (s r : ℕ) (y x : Step) where
-  to-same-position : ((k : ℕ) → k < digit-parts → (part s y k ≡ part r x k) ⊎ OneHomes y x) → same-position (y .position) (x .position) ≡ true
+  to-same-position : ((k : ℕ) → k < digit-parts → SamePart s y r x k) → same-position (y .position) (x .position) ≡ true
   to-same-position f = go (ℕ-discrete (homes y) (1 - homes x)) (homes-cases y) (homes-cases x)
     where
-      alike : (k : ℕ) → homes y ≢ 1 - homes x → (part s y k ≡ part r x k) ⊎ OneHomes y x → part s y k ≡ part r x k
+      alike : (k : ℕ) → homes y ≢ 1 - homes x → SamePart s y r x k → part s y k ≡ part r x k
       alike k n (inl e) = e
       alike k n (inr e) = absurd (n e)
 
@@ -255,16 +259,16 @@ module _ (s r : ℕ) (y x : Step) where
       go (yes e) (inr a) (inr c) = absurd (let z : _≡_ {A = ℕ} 0 1 = omega (arith, a .0, c .0) in omega arith)
       go (no n) a c = same-number (y .position) (x .position) (same-digits s r y x (λ k l. alike k n (f k l)))
 
-  from-same-position : same-position (y .position) (x .position) ≡ true → (k : ℕ) → k < digit-parts → (part s y k ≡ part r x k) ⊎ OneHomes y x
+  from-same-position : same-position (y .position) (x .position) ≡ true → (k : ℕ) → k < digit-parts → SamePart s y r x k
   from-same-position e k l = go (homes-cases y) (homes-cases x)
     where
-      go : HomesOrNot y → HomesOrNot x → (part s y k ≡ part r x k) ⊎ OneHomes y x
+      go : HomesOrNot y → HomesOrNot x → SamePart s y r x k
       go (inl a) (inl c) = inl (digits-same s r y x (a .1 ∙ sym (c .1)) k l)
       go (inl a) (inr c) = inr (omega (arith, a .0, c .0))
       go (inr a) (inl c) = inr (omega (arith, a .0, c .0))
       go (inr a) (inr c) = inl (digits-same s r y x (eqb-true (y .position) (x .position) (sym (compared (y .position) (x .position) (a .1) (c .1)) ∙ e)) k l)
 
-module _ (pairs t : List ℕ) (r : ℕ) (x : Step) where
+module _ (pairs : List ℕ) (r : ℕ) (x : Step) where
   at-conflict : (y : Step) (s : ℕ) → PairedAt pairs r x digit-parts s y → ConflictsWith pairs x s y
   unfolding steps-conflict
   at-conflict y s a = both (same-position (y .position) (x .position)) _ (rw (to-same-position s r y x (a .same)) tt) (a .kinds .paired)
@@ -276,8 +280,8 @@ module _ (pairs t : List ℕ) (r : ℕ) (x : Step) where
     same = from-same-position s r y x (is-true _ (first-of (same-position (y .position) (x .position)) (listed (pairs-of pairs) (y .kind) (x .kind)) b));
   }
 
-  pub at-all : (m : List ℕ) (k : ℕ) → Finds (PairedAt pairs r x k) t m → k ≤ digit-parts → digit-parts ≤ k → Finds (ConflictsWith pairs x) t m
-  at-all m k v a b = record {
+  pub at-all : (t m : List ℕ) (k : ℕ) → Finds (PairedAt pairs r x k) t m → k ≤ digit-parts → digit-parts ≤ k → Finds (ConflictsWith pairs x) t m
+  at-all t m k v a b = record {
     columns = λ runs h c. record {
       sound = λ p i e. let f = w .columns runs h c .sound p i e in record { inside = f .inside; holds = at-conflict (done-step runs h p) (run h p) (f .holds) };
       complete = λ p i f. w .columns runs h c .complete p i (record { inside = f .inside; holds = conflict-at (done-step runs h p) (run h p) (c .kinds p (f .inside)) (f .holds) });

@@ -1,8 +1,8 @@
--- Each turn keeps the places that have one more digit of the position, or of which and the step exactly one homes.
+-- Each turn keeps the places that have the next digit of the position too, and those where exactly one of place and step homes.
 use Prim.Native.Nat.{_≤_, _-_}
 use Rattle.book.specs.Book.{as-step}
 use Rattle.graph.specs.Catalogue.{digit-parts}
-use Rattle.graph.specs.inner.Reading.{Finds, OtherHomeRow}
+use Rattle.graph.specs.inner.Reading.{Finds}
 use Rattle.graph.proofs.Catalogue.{PairedAt, at-none, at-keep, at-all}
 use borrow.Author.Needs.{needs}
 use Rattle.graph.proofs.conflicting.Statement.{statement}

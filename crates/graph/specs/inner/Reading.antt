@@ -55,7 +55,7 @@ pub record Paired (pairs : List ℕ) (kind m r : ℕ) (y : Step) : Type 0 where
 pub record KindAdded (pairs catalogue : List ℕ) (kind k : ℕ) (m m′ : List ℕ) : Type 0 where
   pub more : Finds (Paired pairs kind k) catalogue m → Finds (Paired pairs kind (k + 1)) catalogue m′
 
--- a step y, of any run s, that conflicts with a step x of another run
+-- a step y that conflicts with a step x if they are of different runs; the run s of y plays no part
 abbrev pub ConflictsWith : List ℕ → Step → ℕ → Step → Type 0
 ConflictsWith pairs x s y = T (steps-conflict (pairs-of pairs) y x)
 
