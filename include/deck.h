@@ -55,6 +55,14 @@ enum deck_number {
 
 enum deck_verdict { DECK_REFUSED = 0, DECK_PASSED = 1, DECK_TANGLED = 2 };
 
+/* The arcs of the history's graph, the relative serialization graph. The cuts of a run, as seen by another, divide its done steps into units. */
+enum deck_arcs {
+    DECK_ARC_I = 1, /* from a step to the next of its run */
+    DECK_ARC_D = 2, /* from a step p to a step q of another run that depends on p */
+    DECK_ARC_F = 4, /* for each D arc from p to q: from the last step of p's unit, as seen by q's run, to q */
+    DECK_ARC_B = 8, /* for each D arc from p to q: from p to the first step of q's unit, as seen by p's run */
+};
+
 typedef struct {
     uint64_t number; /* 0, or an enum deck_number */
     uint64_t place;
@@ -89,7 +97,8 @@ deck_answer deck_check_order(const uint8_t *book, size_t book_len, const uint8_t
 /* 1 if the list of places is a cycle of the history's graph, else 0. */
 deck_answer deck_check_cycle(const uint8_t *book, size_t book_len, const uint8_t *list, size_t list_len);
 
-/* 1 if any arc of the history's graph leads from the place `from` to the place `to`, else 0; a place beyond the done steps has none. */
+/* The arcs that lead from the place `from` to the place `to`: the sum of all enum deck_arcs that hold there, 0 if none does. A place beyond the done
+   steps has none. */
 deck_answer deck_arc(const uint8_t *book, size_t book_len, size_t from, size_t to);
 
 /* Writes the book anew from what was read of it: its bytes to the front of `out`, all other bytes unchanged. The value is its length. */

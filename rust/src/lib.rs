@@ -60,6 +60,12 @@ const _: () = assert!(std::mem::size_of::<RawGate>() == 9160 && std::mem::size_o
 const PASSED: u64 = 1;
 const TANGLED: u64 = 2;
 
+// Of `enum deck_arcs`.
+const ARC_I: u64 = 1;
+const ARC_D: u64 = 2;
+const ARC_F: u64 = 4;
+const ARC_B: u64 = 8;
+
 extern "C" {
     fn deck_read(book: *const u8, len: usize) -> RawAnswer;
     fn deck_judge(book: *const u8, len: usize, order: *mut u8, order_len: usize, cycle: *mut u8, cycle_len: usize) -> RawJudgement;
@@ -213,9 +219,35 @@ pub fn check_cycle(book: &[u8], list: &[u8]) -> Result<bool, Refusal> {
     decided(unsafe { deck_check_cycle(book.as_ptr(), book.len(), list.as_ptr(), list.len()) })
 }
 
-/// Whether any arc of the history's graph leads from one place to another.
-pub fn arc(book: &[u8], from: usize, to: usize) -> Result<bool, Refusal> {
-    decided(unsafe { deck_arc(book.as_ptr(), book.len(), from, to) })
+/// The arcs of the history's graph that lead from one place to another. The cuts of a run, as seen by another, divide its done steps into units.
+#[derive(Clone, Copy, Debug, PartialEq, Eq)]
+pub struct Arcs {
+    /// From a step to the next of its run.
+    pub i: bool,
+    /// From a step p to a step q of another run that depends on p.
+    pub d: bool,
+    /// For each D arc from p to q: from the last step of p's unit, as seen by q's run, to q.
+    pub f: bool,
+    /// For each D arc from p to q: from p to the first step of q's unit, as seen by p's run.
+    pub b: bool,
+}
+
+impl Arcs {
+    /// Whether any arc leads there.
+    pub fn any(&self) -> bool {
+        self.i || self.d || self.f || self.b
+    }
+
+    /// The first of I, D, F and B that holds.
+    pub fn first(&self) -> Option<char> {
+        [(self.i, 'I'), (self.d, 'D'), (self.f, 'F'), (self.b, 'B')].iter().find(|arc| arc.0).map(|arc| arc.1)
+    }
+}
+
+/// The arcs that lead from one place to another; a place beyond the done steps has none.
+pub fn arcs(book: &[u8], from: usize, to: usize) -> Result<Arcs, Refusal> {
+    let sum = answered(unsafe { deck_arc(book.as_ptr(), book.len(), from, to) })?;
+    Ok(Arcs { i: sum & ARC_I != 0, d: sum & ARC_D != 0, f: sum & ARC_F != 0, b: sum & ARC_B != 0 })
 }
 
 /// The book, written anew from what was read of it.
@@ -319,7 +351,7 @@ mod tests {
     }
 
     #[test]
-    fn limits_and_causes_are_those_of_the_header() {
+    fn limits_causes_and_arcs_are_those_of_the_header() {
         let header = include_str!("../../include/deck.h");
         let has = |name: &str, number: u64| {
             let text = format!("{} = {},", name, number);
@@ -329,6 +361,9 @@ mod tests {
             has(&format!("DECK_{}", name), limit as u64);
         }
         has("DECK_HOME", HOME.into());
+        for (name, number) in [("I", ARC_I), ("D", ARC_D), ("F", ARC_F), ("B", ARC_B)] {
+            has(&format!("DECK_ARC_{}", name), number);
+        }
         for &cause in CAUSES {
             let number = cause as u64;
             let letters = format!("{:?}", cause);
@@ -369,16 +404,50 @@ mod tests {
         assert_eq!(judge(&b), Ok(Verdict::Passed(vec![0, 1, 1, 0])));
     }
 
+    /// The arcs of those letters.
+    fn arcs_named(letters: &str) -> Arcs {
+        let has = |letter| letters.contains(letter);
+        Arcs { i: has('I'), d: has('D'), f: has('F'), b: has('B') }
+    }
+
     #[test]
     fn figure_3_has_the_arcs_that_001_names() {
         let b = book("figure3");
         // w1[x] r2[x] r3[z] w2[y] r3[y] r1[z] are places 0 to 5
-        assert_eq!(arc(&b, 5, 1), Ok(true)); // F: r1[z] to r2[x]
-        assert_eq!(arc(&b, 3, 2), Ok(true)); // B: w2[y] to r3[z]
-        assert_eq!(arc(&b, 0, 1), Ok(true)); // D
-        assert_eq!(arc(&b, 0, 5), Ok(true)); // I
-        assert_eq!(arc(&b, 1, 0), Ok(false));
-        assert_eq!(arc(&b, 0, 6), Ok(false));
+        let all = [
+            (0, 1, "DB"),
+            (0, 3, "DB"),
+            (0, 4, "DFB"),
+            (0, 5, "I"),
+            (1, 2, "B"),
+            (1, 3, "I"),
+            (1, 4, "DF"),
+            (2, 4, "I"),
+            (3, 2, "B"), // w2[y] to r3[z], which 001 names
+            (3, 4, "DF"),
+            (5, 1, "F"), // r1[z] to r2[x], which 001 names
+            (5, 3, "F"),
+        ];
+        for from in 0..8 {
+            for to in 0..8 {
+                let letters = all.iter().find(|arc| (arc.0, arc.1) == (from, to)).map_or("", |arc| arc.2);
+                assert_eq!(arcs(&b, from, to), Ok(arcs_named(letters)), "from {} to {}", from, to);
+            }
+        }
+        assert_eq!(arcs(&b, 0, usize::MAX), Ok(arcs_named("")));
+        assert_eq!(arcs(&[], 0, 1), Err(Refusal { cause: Cause::EndsEarly, place: 0 }));
+    }
+
+    #[test]
+    fn the_first_arc_of_those_at_once_is_named() {
+        let b = book("arcs-at-once");
+        assert_eq!(check_cycle(&b, &[2, 3, 1]), Ok(true));
+        for (from, to, letters) in [(2, 3, "B"), (3, 1, "FB"), (1, 2, "DFB")] {
+            let found = arcs(&b, from, to).unwrap();
+            assert_eq!((found, found.any(), found.first()), (arcs_named(letters), true, letters.chars().next()));
+        }
+        assert_eq!((arcs_named("").any(), arcs_named("").first()), (false, None));
+        assert_eq!((arcs_named("I").any(), arcs_named("I").first()), (true, Some('I')));
     }
 
     #[test]

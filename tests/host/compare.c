@@ -1,12 +1,13 @@
 /* The proved calls beside plain.c, on one book: every call, on drawn lists, places and calls to the gate, and on gates' records, as the calls leave them
-   and altered; and the evidence of each verdict. */
+   and altered; the evidence of each verdict, and the arcs of its cycle. */
 #include "compare.h"
 #include <string.h>
 
 enum { CALLS = 200 }; /* in a list, at most */
 enum { ROOM = DECK_BUFFER + 72 }; /* of each buffer, filled beforehand so that a stray byte shows */
+enum { SHORT = 6 }; /* done steps, at most, of a history on whose every pair of places the arcs are compared */
 
-long altered_records[2];
+long altered_records[2], arc_answers[ARC_SUMS];
 
 static int untouched(const uint8_t *buffer, size_t from, size_t len, uint8_t fill) {
     for (size_t i = from; i < len; i++)
@@ -271,6 +272,23 @@ static void compare_gate(source *s, const uint8_t *book, size_t len, const plain
     }
 }
 
+/* Compares the arcs from one place to another. */
+static void compare_arc(const uint8_t *book, size_t len, const plain_book *b, plain_refusal r, size_t x, size_t y) {
+    int want = r.number ? 0 : plain_arc(b, x, y);
+    compare_answer(deck_arc(book, len, x, y), r, want, "arc test");
+    arc_answers[want] += !r.number;
+}
+
+/* Compares the arcs of the judge's cycle, the one back to the first place last; in a short history, those from each place to each, the first place beyond
+   the done steps included. */
+static void compare_arcs(const uint8_t *book, size_t len, const plain_book *b, plain_refusal r, const uint8_t *cycle, size_t count) {
+    for (size_t i = 0; i < count; i++)
+        compare_arc(book, len, b, r, cycle[i], cycle[(i + 1) % count]);
+    for (size_t x = 0; b->n <= SHORT && x <= (size_t)b->n; x++)
+        for (size_t y = 0; y <= (size_t)b->n; y++)
+            compare_arc(book, len, b, r, x, y);
+}
+
 void compare_book(source *s, const uint8_t *book, size_t len, const plain_book *b, plain_refusal r) {
     uint8_t found[DECK_STEPS], list[ROOM];
     int count, passed;
@@ -288,12 +306,16 @@ void compare_book(source *s, const uint8_t *book, size_t len, const plain_book *
         compare_answer(deck_check_cycle(book, len, list, n), r, r.number ? 0 : plain_cycle_check(b, list, n), "cycle check");
         unsigned places = r.number ? ROOM : (unsigned)b->n + 2;
         size_t x = below(s, places), y = below(s, places);
-        compare_answer(deck_arc(book, len, x, y), r, r.number ? 0 : plain_arc(b, x, y) != 0, "arc test");
+        compare_arc(book, len, b, r, x, y);
+        compare_arc(book, len, b, r, x, SIZE_MAX - y);
+        compare_arc(book, len, b, r, SIZE_MAX - x, y);
     }
     if (!r.number && passed)
         compare_answer(deck_check_order(book, len, found, (size_t)count), r, 1, "order check of the judge's order");
     if (!r.number && !passed)
         compare_answer(deck_check_cycle(book, len, found, (size_t)count), r, 1, "cycle check of the judge's cycle");
+    if (!r.number)
+        compare_arcs(book, len, b, r, found, passed ? 0 : (size_t)count);
     compare_writer(s, book, len, r);
     compare_gate(s, book, len, b, r);
     if (r.number)

@@ -11,4 +11,8 @@ void compare_book(source *s, const uint8_t *book, size_t len, const plain_book *
 /* How many altered records were compared: those not sound, those sound. */
 extern long altered_records[2];
 
+/* How often the arc test was compared on an accepted book, by the sum of enum deck_arcs that plain.c gives. */
+enum { ARC_SUMS = DECK_ARC_I + DECK_ARC_D + DECK_ARC_F + DECK_ARC_B + 1 };
+extern long arc_answers[ARC_SUMS];
+
 #endif

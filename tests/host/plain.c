@@ -423,27 +423,37 @@ int plain_order_check(const plain_book *b, const uint8_t *list, size_t len) {
     return slow_relserial(b, &h, 0);
 }
 
+static int d_arc(const slow *h, int p, int q) { return h->run[p] != h->run[q] && h->depends[p][q]; }
+
+/* whether x is the last step of p's unit, as seen by o */
+static int last_of_unit(const plain_book *b, const slow *h, int o, int p, int x) {
+    int later = 0;
+    for (int k = x + 1; k < h->n; k++)
+        later |= same_unit(b, h, o, p, k);
+    return same_unit(b, h, o, p, x) && !later;
+}
+
+/* whether y is the first step of q's unit, as seen by o */
+static int first_of_unit(const plain_book *b, const slow *h, int o, int q, int y) {
+    int earlier = 0;
+    for (int k = 0; k < y; k++)
+        earlier |= same_unit(b, h, o, q, k);
+    return same_unit(b, h, o, q, y) && !earlier;
+}
+
 static int slow_arc(const plain_book *b, const slow *h, int x, int y) {
-    int kinds = 0;
-    if (h->run[x] == h->run[y])
-        kinds |= h->ordinal[y] == h->ordinal[x] + 1 ? 1 : 0;
-    else
-        kinds |= h->depends[x][y] ? 2 : 0;
-    for (int p = 0; p < h->n; p++) {
-        if (h->run[p] != h->run[y] && h->depends[p][y] && same_unit(b, h, h->run[y], p, x)) {
-            int later = 0;
-            for (int k = x + 1; k < h->n; k++)
-                later |= same_unit(b, h, h->run[y], p, k);
-            kinds |= later ? 0 : 4;
-        }
-        if (h->run[x] != h->run[p] && h->depends[x][p] && same_unit(b, h, h->run[x], p, y)) {
-            int earlier = 0;
-            for (int k = 0; k < y; k++)
-                earlier |= same_unit(b, h, h->run[x], p, k);
-            kinds |= earlier ? 0 : 8;
-        }
-    }
-    return kinds;
+    int arcs = 0;
+    if (h->run[x] == h->run[y] && h->ordinal[y] == h->ordinal[x] + 1)
+        arcs |= DECK_ARC_I;
+    if (d_arc(h, x, y))
+        arcs |= DECK_ARC_D;
+    for (int p = 0; p < h->n; p++)
+        if (d_arc(h, p, y) && last_of_unit(b, h, h->run[y], p, x))
+            arcs |= DECK_ARC_F;
+    for (int q = 0; q < h->n; q++)
+        if (d_arc(h, x, q) && first_of_unit(b, h, h->run[x], q, y))
+            arcs |= DECK_ARC_B;
+    return arcs;
 }
 
 int plain_arc(const plain_book *b, size_t x, size_t y) {

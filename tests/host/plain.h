@@ -38,7 +38,7 @@ int plain_conflict(const plain_book *b);
 int plain_order_check(const plain_book *b, const uint8_t *list, size_t len);
 int plain_cycle_check(const plain_book *b, const uint8_t *list, size_t len);
 
-/* The arcs from place x to place y: 1 for I, 2 for D, 4 for F, 8 for B, added up. */
+/* The arcs from place x to place y: the sum of all enum deck_arcs that hold there. */
 int plain_arc(const plain_book *b, size_t x, size_t y);
 
 /* The gate: the book with the kept list as its history, and the withdrawn runs. */

@@ -1,6 +1,6 @@
 /* Runs the built program on many books from a fixed seed, whole and damaged, and compares what it writes with what plain.c says.
      program DECK FILE       FILE is where each book is put for the program to read
-   Prints 'N passed, M failed', a count of books. */
+   Prints 'N passed, M failed', a count of books, and how many arcs of the printed cycles have each letter; it fails where one of these counts is 0. */
 #include "books.h"
 #include "plain.h"
 #include <stdio.h>
@@ -10,6 +10,19 @@
 enum { TEXT = 4096, BOOKS = 8000 };
 
 static const char *deck, *file;
+
+/* The letters of the arcs, in the order in which they are looked for, and how many were printed. */
+static struct {
+    int arc;
+    const char *letter;
+    long printed;
+} letters[] = {
+    {DECK_ARC_I, "I", 0},
+    {DECK_ARC_D, "D", 0},
+    {DECK_ARC_F, "F", 0},
+    {DECK_ARC_B, "B", 0},
+};
+enum { LETTERS = sizeof letters / sizeof *letters };
 
 /* What the program writes for a book. */
 static size_t run(const uint8_t *book, size_t len, char *text) {
@@ -30,19 +43,36 @@ static size_t run(const uint8_t *book, size_t len, char *text) {
     return pclose(p) ? 0 : n;
 }
 
-/* A line of numbers behind a word; 0 if the text is anything else. */
-static int numbers(const char *text, const char *word, uint8_t *list, size_t *count) {
+/* Reads a line of numbers behind a word: the text behind it, or null if the text begins with anything else. */
+static const char *numbers(const char *text, const char *word, uint8_t *list, size_t *count) {
     size_t n = strlen(word);
     if (strncmp(text, word, n))
-        return 0;
+        return NULL;
     *count = 0;
     for (text += n; *text == ' '; (*count)++) {
         char *end;
         long x = strtol(text + 1, &end, 10);
         if (end == text + 1 || x < 0 || x > UINT8_MAX || *count == DECK_STEPS || (text[1] == '0' && end != text + 2))
-            return 0;
+            return NULL;
         list[*count] = (uint8_t)x;
         text = end;
+    }
+    return *text == '\n' ? text + 1 : NULL;
+}
+
+/* Whether the text is the line of arcs under a cycle: for each, the one back to the first place last, the first letter that holds. Counts the letters. */
+static int right_arcs(const char *text, const plain_book *b, const uint8_t *cycle, size_t count) {
+    if (strncmp(text, "arcs", 4))
+        return 0;
+    text += 4;
+    for (size_t i = 0; i < count; i++) {
+        int arcs = plain_arc(b, cycle[i], cycle[(i + 1) % count]), k = 0;
+        while (k < LETTERS && !(arcs & letters[k].arc))
+            k++;
+        if (k == LETTERS || text[0] != ' ' || text[1] != *letters[k].letter)
+            return 0;
+        letters[k].printed++;
+        text += 2;
     }
     return !strcmp(text, "\n");
 }
@@ -65,9 +95,10 @@ static int right(const char *text, const uint8_t *book, size_t len) {
     if (strncmp(text, head, strlen(head)))
         return 0;
     text += strlen(head);
+    text = numbers(text, passed ? "order" : "cycle", list, &n);
     if (passed)
-        return numbers(text, "order", list, &n) && n == (size_t)count && !memcmp(list, order, n);
-    return numbers(text, "cycle", list, &n) && plain_cycle_check(&b, list, n);
+        return text && n == (size_t)count && !memcmp(list, order, n) && !*text;
+    return text && plain_cycle_check(&b, list, n) && right_arcs(text, &b, list, n);
 }
 
 static void compare(source *s, const uint8_t *book, size_t len) {
@@ -85,5 +116,9 @@ int main(int argc, char **argv) {
     file = argv[2];
     int status = test_books(1994, BOOKS, compare);
     remove(file);
+    for (int k = 0; k < LETTERS; k++) {
+        printf("arcs printed as %s: %ld\n", letters[k].letter, letters[k].printed);
+        status |= none(letters[k].printed, letters[k].letter, "with such an arc");
+    }
     return status;
 }

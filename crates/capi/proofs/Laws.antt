@@ -11,6 +11,11 @@ use Rattle.book.specs.declared.Answer.the-variants.{Refused, Accepted}
 use Rattle.book.proofs.Books.{history-long}
 use Rattle.classes.specs.Tested.{tested-numbers}
 use Rattle.classes.specs.declared.Tested.{Tested}
+use Rattle.names.specs.Names.{names-value}
+use Rattle.names.specs.declared.ArcNames.{ArcNames}
+use Rattle.evidence.specs.Named.{named-numbers}
+use Rattle.evidence.specs.declared.Named.{Named}
+use Rattle.evidence.specs.declared.Named.the-variants.{Arcs}
 use Rattle.writer.specs.Written.{written-numbers}
 use Rattle.writer.specs.declared.Written.{Written}
 use Rattle.gate.specs.Gate.{reply-numbers, OpenedAs}
@@ -32,6 +37,12 @@ refusal-numbers cause at n e = rw e
 -- an answer that is the case x, whose numbers are r
 pub tested-is : (tested x : Tested) (r : Answered) → tested ≡ x → r ≡ answered (tested-numbers x) → r ≡ answered (tested-numbers tested)
 tested-is tested x r e f = rw e f
+
+pub named-is : (named x : Named) (r : Answered) → named ≡ x → r ≡ answered (named-numbers x) → r ≡ answered (named-numbers named)
+named-is named x r e f = rw e f
+
+pub names-is : (named : Named) (w : ArcNames) (v k : ℕ) (r : Answered) → named ≡ Arcs w → v ≡ names-value w → k ≡ v → r ≡ answered (value-of k) → r ≡ answered (named-numbers named)
+names-is named w v k r e f g h = rw (e, ← f, ← g) h
 
 pub written-is : (written x : Written) (r : Answered) → written ≡ x → r ≡ answered (written-numbers x) → r ≡ answered (written-numbers written)
 written-is written x r e f = rw e f

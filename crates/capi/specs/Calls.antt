@@ -6,6 +6,9 @@ use Rattle.book.specs.Format.{Contents, read}
 use Rattle.book.specs.Numbers.{reading-numbers}
 use Rattle.classes.specs.Tested.{tested-numbers, TestedAs}
 use Rattle.classes.specs.declared.Tested.{Tested}
+use Rattle.names.specs.declared.ArcNames.{ArcNames}
+use Rattle.evidence.specs.Named.{named-numbers, NamedAs}
+use Rattle.evidence.specs.declared.Named.{Named}
 use Rattle.gate.specs.Plain.{Call}
 use Rattle.gate.specs.Gate.{reply-numbers, opening-numbers, OpenedAs, CalledAs}
 use Rattle.gate.specs.Replay.{played-numbers, Replays}
@@ -30,6 +33,12 @@ pub record TestCall (P : Contents → Type 0) (s : List ℕ) (r : Answered) : Ty
   pub tested : Tested
   pub promise : TestedAs P s tested
   pub numbers : r ≡ answered (tested-numbers tested)
+
+-- the arc test, where N names the arcs of a book's contents
+pub record NameCall (N : Contents → ArcNames) (s : List ℕ) (r : Answered) : Type 0 where
+  pub named : Named
+  pub promise : NamedAs N s named
+  pub numbers : r ≡ answered (named-numbers named)
 
 pub record JudgeCall (s order order′ cycle cycle′ : List ℕ) (r : Judged) : Type 0 where
   pub judgement : Judgement

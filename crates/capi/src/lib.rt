@@ -2,6 +2,7 @@
 use book::Answer;
 use book::Cause;
 use classes::Tested;
+use evidence::Named;
 use gate::Gate;
 use gate::Played;
 use gate::Reply;
@@ -10,17 +11,19 @@ use judge::Verdict;
 use writer::Written;
 ghost use mathlib.Core.Path.{_≡_};
 ghost use Rattle.theory.specs.Relative.{RelativelySerialOrder};
-ghost use Rattle.theory.specs.Graph.{Cycle, Arc};
+ghost use Rattle.theory.specs.Graph.{Cycle};
 ghost use Rattle.book.specs.Numbers.{refused-with, value-of};
 ghost use Rattle.book.specs.Meaning.{conflict-of, unit-of, SerialHistory, RelativelyAtomicHistory, RelativelySerialHistory, ConflictSerializableHistory};
 ghost use Rattle.gate.specs.Plain.{step as step-call, withdraw as withdraw-call};
 ghost use Rattle.classes.specs.Tested.{tested-numbers};
+ghost use Rattle.names.specs.Names.{names-of};
+ghost use Rattle.evidence.specs.Named.{named-numbers};
 ghost use Rattle.writer.specs.Written.{written-numbers};
 ghost use Rattle.judge.specs.Judged.{verdict-numbers};
 ghost use Rattle.gate.specs.Gate.{reply-numbers};
 ghost use Rattle.gate.specs.Replay.{played-numbers};
 ghost use Rattle.capi.specs.Numbers.{answered, judged};
-ghost use Rattle.capi.specs.Calls.{ReadCall, TestCall, JudgeCall, WriteCall, OpenCall, GateCall, ReplayCall};
+ghost use Rattle.capi.specs.Calls.{ReadCall, TestCall, NameCall, JudgeCall, WriteCall, OpenCall, GateCall, ReplayCall};
 
 // The number of a refusal or 0, its place or 0, and what the call answers or 0.
 #[repr(C)]
@@ -74,6 +77,15 @@ fn of_tested(tested: Tested) -> Answered
         Tested::Refused(cause, place) => refused_with(cause, place),
         Tested::Yes => value_of(1),
         Tested::No => value_of(0),
+    }
+}
+
+fn of_named(named: Named) -> Answered
+    ensures { λ r. ⌜ r ≡ answered (named-numbers named) ⌝ }
+{
+    match named {
+        Named::Refused(cause, place) => refused_with(cause, place),
+        Named::Arcs(w) => value_of(book::wide(names::names_value(w))),
     }
 }
 
@@ -205,10 +217,10 @@ pub extern "C" fn deck_check_cycle(s: &[u8], list: &[u8]) -> Answered
 
 #[no_mangle]
 pub extern "C" fn deck_arc(s: &[u8], from: usize, to: usize) -> Answered
-    ensures { λ r. ⌜ TestCall (λ c. Arc (conflict-of c) (unit-of c) (c .history) from to) (now (s .entry)) r ⌝ }
+    ensures { λ r. ⌜ NameCall (λ c. names-of (conflict-of c) (unit-of c) (c .history) from to) (now (s .entry)) r ⌝ }
 {
-    let tested = evidence::arc_test(s, from, to);
-    of_tested(tested)
+    let named = evidence::arc_test(s, from, to);
+    of_named(named)
 }
 
 #[no_mangle]

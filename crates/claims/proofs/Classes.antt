@@ -101,7 +101,7 @@ module _ (s : List ℕ) where
   -- in the program's text
   text-class : (c : Contents) → read s ≡ accepted c → (v : ReportVerdict) → VerdictOn c v → TextSaysPassed v ↔ InClass RelativelySerializableHistory s
   text-class c e (passed l) w = (λ y. record { held = c; book = e; holds = record { order = l; evidence = w .0 } }, λ i. (l, refl))
-  text-class c e (tangled l) w = (λ y. absurd (let f = y .1 in let z : _≡_ {A = ℕ} 0 1 = cc in omega arith), λ i. absurd (w .0 (class-of RelativelySerializableHistory s c e i)))
+  text-class c e (tangled l ns) w = (λ y. absurd (let f = y .1 in let z : _≡_ {A = ℕ} 0 1 = cc in omega arith), λ i. absurd (w .0 (class-of RelativelySerializableHistory s c e i)))
 
   -- ---- nested
 

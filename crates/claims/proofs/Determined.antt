@@ -2,7 +2,7 @@
 use Prim.Native.Nat.{ℕ, _≤_, _<_}
 use native.Mathlib.Decide.{decLt}
 use native.Mathlib.Omega.{arith}
-use mathlib.Core.Path.{_≡_, refl, ap, sym, _∙_}
+use mathlib.Core.Path.{_≡_, refl, ap, ap₂, sym, _∙_}
 use mathlib.Core.Logic.{_⊎_, inl, inr, _≢_}
 use mathlib.Core.Bool.{Bool, true, false}
 use mathlib.Core.List.{List}
@@ -31,6 +31,10 @@ use Rattle.judge.specs.declared.Verdict.the-variants.{Passed, Tangled, Refused 
 use Rattle.classes.specs.Tested.{tested-numbers, YesWhere, OutcomeTested}
 use Rattle.classes.specs.declared.Tested.{Tested}
 use Rattle.classes.specs.declared.Tested.the-variants.{Yes, No, Refused as NotTested}
+use Rattle.names.specs.Names.{cycle-names}
+use Rattle.names.specs.declared.ArcNames.{ArcNames}
+use Rattle.evidence.specs.Named.{named-numbers, OutcomeNamed}
+use Rattle.evidence.specs.declared.Named.{Named}
 use Rattle.writer.specs.Written.{written-numbers}
 use Rattle.writer.specs.declared.Written.{Written}
 use Rattle.gate.specs.Plain.{Call, Answer, place, withdrawn, refused as refused-by}
@@ -51,7 +55,7 @@ use Rattle.capi.specs.Numbers.{answered, opened-gate}
 use Rattle.capi.specs.Calls.{JudgeCall}
 use Rattle.capi.specs.declared.Judged.{Judged}
 use Rattle.claims.specs.Demands.{judged-numbers}
-use Rattle.claims.specs.Determined.{AtMostOne, AtMostOnePair, EqualButCycle, verdict-alone, without-cycle, Determined}
+use Rattle.claims.specs.Determined.{AtMostOne, AtMostOnePair, EqualButCycle, verdict-alone, without-cycle, cycle-in, cycle-of, Determined}
 
 -- ---- reading
 
@@ -153,6 +157,10 @@ one-test : (P : Contents → Type 0) (o : Outcome) → AtMostOne (OutcomeTested 
 one-test P (refused cause at) r r′ w w′ = w .refusal ∙ sym (w′ .refusal)
 one-test P (accepted c) r r′ w w′ = one-answer (P c) r r′ w w′
 
+one-name : (N : Contents → ArcNames) (o : Outcome) → AtMostOne (OutcomeNamed o N)
+one-name N (refused cause at) r r′ w w′ = w .refusal ∙ sym (w′ .refusal)
+one-name N (accepted c) r r′ w w′ = w ∙ sym w′
+
 -- ---- step and withdraw
 
 -- the reply of an answer
@@ -214,9 +222,9 @@ one-truth P false false w w′ = refl
 
 one-verdict : (c : Contents) (v v′ : ReportVerdict) → VerdictOn c v → VerdictOn c v′ → verdict-alone v ≡ verdict-alone v′
 one-verdict c (passed l) (passed m) w w′ = ap passed (one-order c l m (w .0) (w′ .0) (w .1) (w′ .1))
-one-verdict c (passed l) (tangled m) w w′ = absurd (w′ .0 (record { order = l; evidence = w .0 }))
-one-verdict c (tangled l) (passed m) w w′ = absurd (w .0 (record { order = m; evidence = w′ .0 }))
-one-verdict c (tangled l) (tangled m) w w′ = refl
+one-verdict c (passed l) (tangled m ns) w w′ = absurd (w′ .0 (record { order = l; evidence = w .0 }))
+one-verdict c (tangled l ns) (passed m) w w′ = absurd (w .0 (record { order = m; evidence = w′ .0 }))
+one-verdict c (tangled l ns) (tangled m ks) w w′ = refl
 
 one-report : (o : Outcome) (v v′ : Report) → ReportOn o v → ReportOn o v′ → without-cycle v ≡ without-cycle v′
 one-report (refused cause at) v v′ w w′ = ap without-cycle (w ∙ sym w′)
@@ -237,13 +245,37 @@ one-report (accepted c) (accepted-with v) (accepted-with v′) w w′ =
 -- without a cycle, a report is whole
 whole-verdict : (c : Contents) → RelativelySerializable (conflict-of c) (unit-of c) (c .history) → (v : ReportVerdict) → VerdictOn c v → verdict-alone v ≡ v
 whole-verdict c h (passed l) w = refl
-whole-verdict c h (tangled l) w = absurd (w .0 h)
+whole-verdict c h (tangled l ns) w = absurd (w .0 h)
 
 whole-report : (o : Outcome) → ((c : Contents) → o ≡ accepted c → RelativelySerializable (conflict-of c) (unit-of c) (c .history)) → (v : Report) → ReportOn o v → without-cycle v ≡ v
 whole-report o h (refused-at n at) w = refl
 whole-report (refused cause at) h (accepted-with v) w = let z : _≡_ {A = ℕ} 0 1 = cc in absurd (omega arith)
 whole-report (accepted c) h (accepted-with v) w =
     λ i. accepted-with (record { done = v .done; serial = v .serial; atomic = v .atomic; relserial = v .relserial; conflict = v .conflict; verdict = whole-verdict c (h c refl) (v .verdict) (w .verdict-is) i })
+
+-- reports with one cycle are equal
+cyclic-verdict : (c : Contents) (v v′ : ReportVerdict) → VerdictOn c v → VerdictOn c v′ → verdict-alone v ≡ verdict-alone v′ → cycle-in v ≡ cycle-in v′ → v ≡ v′
+cyclic-verdict c (passed l) (passed m) w w′ a e = a
+cyclic-verdict c (passed l) (tangled m ns) w w′ a e = absurd (w′ .0 (record { order = l; evidence = w .0 }))
+cyclic-verdict c (tangled l ns) (passed m) w w′ a e = absurd (w .0 (record { order = m; evidence = w′ .0 }))
+cyclic-verdict c (tangled l ns) (tangled m ks) w w′ a e =
+    ap₂ tangled e (w .2 ∙ ap (cycle-names (conflict-of c) (unit-of c) (c .history)) e ∙ sym (w′ .2))
+
+cyclic-report : (o : Outcome) (v v′ : Report) → ReportOn o v → ReportOn o v′ → cycle-of v ≡ cycle-of v′ → v ≡ v′
+cyclic-report (refused cause at) v v′ w w′ e = w ∙ sym w′
+cyclic-report (accepted c) (refused-at n at) v′ w w′ e = absurd w
+cyclic-report (accepted c) (accepted-with f) (refused-at n at) w w′ e = absurd w′
+cyclic-report (accepted c) (accepted-with v) (accepted-with v′) w w′ e =
+    let k = w .classes-are in
+    let k′ = w′ .classes-are in
+    λ i. accepted-with (record {
+      done = (w .done-is ∙ sym (w′ .done-is)) i;
+      serial = one-truth _ (v .serial) (v′ .serial) (k .serial-is) (k′ .serial-is) i;
+      atomic = one-truth _ (v .atomic) (v′ .atomic) (k .atomic-is) (k′ .atomic-is) i;
+      relserial = one-truth _ (v .relserial) (v′ .relserial) (k .relserial-is) (k′ .relserial-is) i;
+      conflict = one-truth _ (v .conflict) (v′ .conflict) (k .conflict-is) (k′ .conflict-is) i;
+      verdict = cyclic-verdict c (v .verdict) (v′ .verdict) (w .verdict-is) (w′ .verdict-is) (one-verdict c (v .verdict) (v′ .verdict) (w .verdict-is) (w′ .verdict-is)) e i;
+    })
 
 -- ---- the calls for C
 
@@ -272,6 +304,7 @@ all-determined = record {
   judging = λ s order order′ order″ cycle cycle′ cycle″ r r′ w w′. bytes-equal order order′ order″ cycle cycle′ cycle″ r r′ s w w′;
   judging-rest = λ s order order′ cycle cycle′ r w. bytes-rest order order′ cycle cycle′ s r w;
   testing = λ P s r r′ w w′. one-test P (read s) r r′ (w .tested) (w′ .tested);
+  naming = λ N s r r′ w w′. one-name N (read s) r r′ (w .named) (w′ .named);
   writing = λ s before x x′ r r′ w w′. (w .buffer ∙ sym (w′ .buffer), w .answer ∙ sym (w′ .answer));
   opening = one-opening;
   calling = one-call;
@@ -281,11 +314,16 @@ all-determined = record {
   reporting-uncyclic = λ o before h x x′ n n′ w w′.
       let e : text-of (w .report) ≡ text-of (w′ .report) = ap text-of (cc (whole-report o h (w .report) (w .report-on), one-report o (w .report) (w′ .report) (w .report-on) (w′ .report-on), whole-report o h (w′ .report) (w′ .report-on))) in
       (cc (e, w .put .bytes, w′ .put .bytes), cc (e, w .put .count, w′ .put .count));
+  reporting-cyclic = λ o before x x′ n n′ w w′ f.
+      let e : text-of (w .report) ≡ text-of (w′ .report) = ap text-of (cyclic-report o (w .report) (w′ .report) (w .report-on) (w′ .report-on) f) in
+      (cc (e, w .put .bytes, w′ .put .bytes), cc (e, w .put .count, w′ .put .count));
   c-reading = λ s r r′ w w′. w .numbers ∙ sym (w′ .numbers);
   c-judging = c-judged;
   c-judging-rest = λ s order order′ cycle cycle′ r w. rw (w .numbers) (bytes-rest order order′ cycle cycle′ s (w .judgement) (w .promise));
   c-testing = λ P s r r′ w w′. same-numbers (λ (t : Tested). answered (tested-numbers t)) (w .numbers) (w′ .numbers)
       (one-test P (read s) (w .tested) (w′ .tested) (w .promise .tested) (w′ .promise .tested));
+  c-naming = λ N s r r′ w w′. same-numbers (λ (t : Named). answered (named-numbers t)) (w .numbers) (w′ .numbers)
+      (one-name N (read s) (w .named) (w′ .named) (w .promise .named) (w′ .promise .named));
   c-writing = λ s before x x′ r r′ w w′. (
     w .promise .buffer ∙ sym (w′ .promise .buffer),
     same-numbers (λ (t : Written). answered (written-numbers t)) (w .numbers) (w′ .numbers) (w .promise .answer ∙ sym (w′ .promise .answer)),

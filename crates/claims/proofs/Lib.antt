@@ -1,7 +1,8 @@
 -- Bytes: lists of bytes, by computation. Table: the documents' table of a book's refusals is the format. EachNumber: each of its numbers is some book's.
 -- Refusals: demand 1. Demands: demands 2 and 3, and the twelve rows. Determined: two results that meet a call's contract are equal. Lazy: document 01's
 -- lazy programs do not meet the demands. Classes: answers that meet the calls' contracts have the classes nested. OnePass: each row is final
--- once its step is read. OldBooks: a contract by a book's conflict is one by the earlier conflict, where the two are the same.
+-- once its step is read. OldBooks: a contract by a book's conflict is one by the earlier conflict, where the two are the same. ArcsByName: the names that
+-- are given hold, and a letter is the first of them.
 pub mod Bytes
 pub mod Table
 pub mod EachNumber
@@ -12,3 +13,4 @@ pub mod Lazy
 pub mod Classes
 pub mod OnePass
 pub mod OldBooks
+pub mod ArcsByName

@@ -20,6 +20,10 @@ use Rattle.judge.specs.Judge.{OutcomeJudged, BytesJudged}
 use Rattle.judge.specs.declared.Judgement.{Judgement}
 use Rattle.classes.specs.Tested.{YesWhere, OutcomeTested, TestedAs}
 use Rattle.classes.specs.declared.Tested.{Tested}
+use Rattle.names.specs.declared.ArcNames.{ArcNames}
+use Rattle.evidence.specs.Named.{OutcomeNamed, NamedAs}
+use Rattle.evidence.specs.declared.Named.{Named}
+use Rattle.evidence.specs.declared.Named.the-variants.{Arcs}
 use Rattle.gate.specs.Plain.{Call, newly-opened, PlainCall, PlainCallBy, PlainCallsBy}
 use Rattle.gate.specs.Gate.{answer-of, book-of, state-of, Sound, CalledAs, on-sound}
 use Rattle.gate.specs.Replay.{calls-of, answers-in, played-by, Replays}
@@ -76,6 +80,21 @@ module _ (earlier : List Pair → List (List Step) → ℕ → ℕ → ℕ → �
         there : Now (accepted c) ↔ Before (accepted c)
         there = both-ways (λ k. YesWhere (P k c) r) same
 
+    named-before : (N : (ℕ → ℕ → ℕ → ℕ → Bool) → Contents → ArcNames) (r : Named) → NamedAs (λ b. N (conflict-of b) b) s r ↔ NamedAs (λ b. N (earlier-of earlier b) b) s r
+    named-before N r = (
+      λ w. record { named = of-contents Before .1 (there .0 (of-contents Now .0 (w .named))) },
+      λ w. record { named = of-contents Now .1 (there .1 (of-contents Before .0 (w .named))) },
+    )
+      where
+        Now : Outcome → Type 0
+        Now o = OutcomeNamed o (λ b. N (conflict-of b) b) r
+
+        Before : Outcome → Type 0
+        Before o = OutcomeNamed o (λ b. N (earlier-of earlier b) b) r
+
+        there : Now (accepted c) ↔ Before (accepted c)
+        there = both-ways (λ k. r ≡ Arcs (N k c)) same
+
     reported-before : (text text′ : List ℕ) (n : ℕ) → Reports (read s) text text′ n ↔ ReportedBefore earlier c text text′ n
     reported-before text text′ n = (
       λ w. to (w .report) (of-contents (λ o. ReportOn o (w .report)) .0 (w .report-on)) (w .put),
@@ -109,6 +128,11 @@ module _ (earlier : List Pair → List (List Step) → ℕ → ℕ → ℕ → �
       deck-testing = λ P r. (
         λ w. record { tested = w .tested; promise = tested-before P (w .tested) .0 (w .promise); numbers = w .numbers },
         λ w. record { tested = w .tested; promise = tested-before P (w .tested) .1 (w .promise); numbers = w .numbers },
+      );
+      naming = named-before;
+      deck-naming = λ N r. (
+        λ w. record { named = w .named; promise = named-before N (w .named) .0 (w .promise); numbers = w .numbers },
+        λ w. record { named = w .named; promise = named-before N (w .named) .1 (w .promise); numbers = w .numbers },
       );
       reporting = reported-before;
       plain-call = λ g h x a. both-ways (λ k. PlainCallBy k c g x a h) same;

@@ -28,6 +28,10 @@ use Rattle.judge.specs.declared.Verdict.the-variants.{Passed, Tangled, Refused 
 use Rattle.classes.specs.Tested.{tested-numbers, YesWhere, OutcomeTested, TestedAs}
 use Rattle.classes.specs.declared.Tested.{Tested}
 use Rattle.classes.specs.declared.Tested.the-variants.{Yes, No, Refused as NotTested}
+use Rattle.names.specs.Names.{names-value}
+use Rattle.names.specs.declared.ArcNames.{ArcNames}
+use Rattle.evidence.specs.Named.{named-numbers, OutcomeNamed, NamedAs}
+use Rattle.evidence.specs.declared.Named.{Named}
 use Rattle.gate.specs.Plain.{Call, step, withdraw, Answer, place, refused as refused-by-number, State, PlainCall, step-refused, step-tangled, step-kept, withdraw-refused, withdraws, Refusal, not-declared, was-withdrawn, all-kept}
 use Rattle.gate.specs.Gate.{answer-of, reply-numbers, book-of, state-of, Sound, opening-answer, opening-numbers, opened-book, OpenedAs, CalledAs, on-sound, on-damaged}
 use Rattle.gate.specs.Replay.{is-call, calls-of, bad-at, played-numbers, played-by, Replays}
@@ -90,6 +94,13 @@ module _ (P : Contents → Type 0) (s : List ℕ) where
       go : (o : Outcome) → read s ≡ o → OutcomeTested o P r → TurnsAway (BookRow s) (tested-numbers r) (Unit {0})
       go (refused cause at) e t = rw (t .refusal) (book-refused s (Unit {0}) cause at e tt)
       go (accepted c) e t = test-accepted c e r t
+
+name-turns : (N : Contents → ArcNames) (s : List ℕ) (r : Named) → NamedAs N s r → TurnsAway (BookRow s) (named-numbers r) (Unit {0})
+name-turns N s r h = go (read s) refl (h .named)
+  where
+    go : (o : Outcome) → read s ≡ o → OutcomeNamed o N r → TurnsAway (BookRow s) (named-numbers r) (Unit {0})
+    go (refused cause at) e t = rw (t .refusal) (book-refused s (Unit {0}) cause at e tt)
+    go (accepted c) e t = rw t (book-accepted s (Unit {0}) c (value-of (names-value (N c))) e refl)
 
 open-turns : (s : List ℕ) (o : Opened) → OpenedAs (read s) o → TurnsAway (BookRow s) (opening-numbers (o .answer)) (WithoutRuns (o .gate))
 open-turns s o h = rw (h .answer) (go (read s) refl (h .book))
@@ -402,6 +413,8 @@ demand-1 = record {
   deck-judge = λ s order order′ cycle cycle′ r h. rw (h .numbers) (judge-turns s order order′ cycle cycle′ (h .judgement) (h .promise));
   test-bytes = test-turns;
   deck-test = λ P s r h. rw (h .numbers) (test-turns P s (h .tested) (h .promise));
+  name-bytes = name-turns;
+  deck-name = λ N s r h. rw (h .numbers) (name-turns N s (h .named) (h .promise));
   write-bytes = write-turns;
   deck-write = λ s out out′ r h. rw (h .numbers) (write-turns s out out′ (h .written) (h .promise));
   open-gate = open-turns;

@@ -23,6 +23,9 @@ use Rattle.judge.specs.declared.Judgement.{Judgement}
 use Rattle.judge.specs.declared.Verdict.the-variants.{Passed, Tangled}
 use Rattle.classes.specs.Tested.{tested-numbers, TestedAs}
 use Rattle.classes.specs.declared.Tested.{Tested}
+use Rattle.names.specs.declared.ArcNames.{ArcNames}
+use Rattle.evidence.specs.Named.{named-numbers, NamedAs}
+use Rattle.evidence.specs.declared.Named.{Named}
 use Rattle.gate.specs.Plain.{Call, Answer as PlainAnswer, In, newly-opened}
 use Rattle.gate.specs.Gate.{reply-numbers, book-of, state-of, opening-numbers, opened-book, OpenedAs, CalledAs}
 use Rattle.gate.specs.Chain.{Chain}
@@ -34,7 +37,7 @@ use Rattle.gate.specs.declared.Replayed.{Replayed}
 use Rattle.gate.specs.declared.Reply.{Reply}
 use Rattle.report.specs.Text.{Findings, refused-at, accepted-with, text-of}
 use Rattle.report.specs.Reporting.{Reports}
-use Rattle.capi.specs.Calls.{ReadCall, TestCall, JudgeCall, WriteCall, OpenCall, GateCall, ReplayCall}
+use Rattle.capi.specs.Calls.{ReadCall, TestCall, NameCall, JudgeCall, WriteCall, OpenCall, GateCall, ReplayCall}
 use Rattle.capi.specs.declared.Answered.{Answered}
 use Rattle.capi.specs.declared.Judged.{Judged}
 use Rattle.capi.specs.declared.OpenedGate.{OpenedGate}
@@ -95,9 +98,12 @@ pub record Demand1 : Type 1 where
       → TurnsAway (JudgeRow s order cycle) (verdict-numbers (r .verdict)) (BuffersUnchanged order order′ cycle cycle′ (r .count))
   pub deck-judge : (s order order′ cycle cycle′ : List ℕ) (r : Judged) → JudgeCall s order order′ cycle cycle′ r
       → TurnsAway (JudgeRow s order cycle) (judged-numbers r) (BuffersUnchanged order order′ cycle cycle′ (r .count))
-  -- the four class tests, the order check, the cycle check and the arc test; P is what they ask of the contents
+  -- the four class tests, the order check and the cycle check; P is what they ask of the contents
   pub test-bytes : (P : Contents → Type 0) (s : List ℕ) (r : Tested) → TestedAs P s r → TurnsAway (BookRow s) (tested-numbers r) (Unit {0})
   pub deck-test : (P : Contents → Type 0) (s : List ℕ) (r : Answered) → TestCall P s r → TurnsAway (BookRow s) (answered-numbers r) (Unit {0})
+  -- the arc test; N names the arcs of the contents
+  pub name-bytes : (N : Contents → ArcNames) (s : List ℕ) (r : Named) → NamedAs N s r → TurnsAway (BookRow s) (named-numbers r) (Unit {0})
+  pub deck-name : (N : Contents → ArcNames) (s : List ℕ) (r : Answered) → NameCall N s r → TurnsAway (BookRow s) (answered-numbers r) (Unit {0})
   pub write-bytes : (s out out′ : List ℕ) (r : Written) → Wrote s out out′ r → TurnsAway (WriterRow s out) (written-numbers r) (out′ ≡ out)
   pub deck-write : (s out out′ : List ℕ) (r : Answered) → WriteCall s out out′ r → TurnsAway (WriterRow s out) (answered-numbers r) (out′ ≡ out)
   pub open-gate : (s : List ℕ) (o : Opened) → OpenedAs (read s) o → TurnsAway (BookRow s) (opening-numbers (o .answer)) (WithoutRuns (o .gate))

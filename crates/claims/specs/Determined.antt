@@ -14,6 +14,8 @@ use Rattle.judge.specs.Judge.{BytesJudged}
 use Rattle.judge.specs.declared.Judgement.{Judgement}
 use Rattle.judge.specs.declared.Verdict.the-variants.{Tangled}
 use Rattle.classes.specs.Tested.{TestedAs}
+use Rattle.names.specs.declared.ArcNames.{ArcNames}
+use Rattle.evidence.specs.Named.{NamedAs}
 use Rattle.writer.specs.Written.{Wrote}
 use Rattle.gate.specs.Plain.{Call}
 use Rattle.gate.specs.Gate.{OpenedAs, CalledAs}
@@ -21,7 +23,7 @@ use Rattle.gate.specs.Replay.{Replays}
 use Rattle.gate.specs.declared.Gate.{Gate}
 use Rattle.report.specs.Text.{Report, refused-at, accepted-with, Verdict as ReportVerdict, passed, tangled}
 use Rattle.report.specs.Reporting.{Reports}
-use Rattle.capi.specs.Calls.{ReadCall, TestCall, JudgeCall, WriteCall, OpenCall, GateCall, ReplayCall}
+use Rattle.capi.specs.Calls.{ReadCall, TestCall, NameCall, JudgeCall, WriteCall, OpenCall, GateCall, ReplayCall}
 use Rattle.capi.specs.declared.Judged.{Judged}
 use Rattle.claims.specs.Demands.{judged-numbers}
 
@@ -43,14 +45,23 @@ pub record EqualButCycle {A : Type 0} (free v v′ : A) (count count′ : ℕ) (
   pub counts : v ≢ free → count ≡ count′
   pub cycles : v ≢ free → cycle′ ≡ cycle″
 
--- a report without the places of its cycle
+-- a report without its cycle: without the places and the letters of its arcs
 abbrev pub verdict-alone : ReportVerdict → ReportVerdict
 verdict-alone (passed order) = passed order
-verdict-alone (tangled cycle) = tangled []
+verdict-alone (tangled cycle names) = tangled [] []
 
 abbrev pub without-cycle : Report → Report
 without-cycle (refused-at number place) = refused-at number place
 without-cycle (accepted-with w) = accepted-with (record { done = w .done; serial = w .serial; atomic = w .atomic; relserial = w .relserial; conflict = w .conflict; verdict = verdict-alone (w .verdict) })
+
+-- the cycle of a report; where it has none, the empty list
+abbrev pub cycle-in : ReportVerdict → List ℕ
+cycle-in (passed order) = []
+cycle-in (tangled cycle names) = cycle
+
+abbrev pub cycle-of : Report → List ℕ
+cycle-of (refused-at number place) = []
+cycle-of (accepted-with w) = cycle-in (w .verdict)
 
 -- ---- the calls
 
@@ -64,8 +75,10 @@ pub record Determined : Type 1 where
       → EqualButCycle Tangled (r .verdict) (r′ .verdict) (r .count) (r′ .count) order′ order″ cycle′ cycle″
   -- what lies behind the cycle is as before
   pub judging-rest : (s order order′ cycle cycle′ : List ℕ) (r : Judgement) → BytesJudged order order′ cycle cycle′ s r → drop (r .count) cycle′ ≡ drop (r .count) cycle
-  -- the four class tests, the order check, the cycle check and the arc test
+  -- the four class tests, the order check and the cycle check
   pub testing : (P : Contents → Type 0) (s : List ℕ) → AtMostOne (TestedAs P s)
+  -- the arc test; N names the arcs of the contents
+  pub naming : (N : Contents → ArcNames) (s : List ℕ) → AtMostOne (NamedAs N s)
   -- the buffer and the answer
   pub writing : (s before : List ℕ) → AtMostOnePair (Wrote s before)
   -- the answer and the record
@@ -74,12 +87,14 @@ pub record Determined : Type 1 where
   pub calling : (g : Gate) (x : Call) → AtMostOnePair (CalledAs g x)
   -- the buffer, the answer and the record
   pub replaying : (s calls before : List ℕ) → AtMostOnePair (Replays s calls before)
-  -- the report whose text is put, but for the places of a cycle
+  -- the report whose text is put, but for a cycle, its places and its letters
   pub reporting : (o : Outcome) (before x x′ : List ℕ) (n n′ : ℕ) (w : Reports o before x n) (w′ : Reports o before x′ n′) → without-cycle (w .report) ≡ without-cycle (w′ .report)
   -- what lies behind the text is as before
   pub reporting-rest : (o : Outcome) (before x : List ℕ) (n : ℕ) → Reports o before x n → drop n x ≡ drop n before
   -- the buffer and the text's length, where no cycle is printed: the book is refused, or its history relatively serializable
   pub reporting-uncyclic : (o : Outcome) (before : List ℕ) → ((c : Contents) → o ≡ accepted c → RelativelySerializableHistory c) → AtMostOnePair (Reports o before)
+  -- the buffer and the text's length, for one cycle: the letters are a function of the history and the cycle above them
+  pub reporting-cyclic : (o : Outcome) (before x x′ : List ℕ) (n n′ : ℕ) (w : Reports o before x n) (w′ : Reports o before x′ n′) → cycle-of (w .report) ≡ cycle-of (w′ .report) → (x ≡ x′) × (n ≡ n′)
   -- the same of the calls for C
   pub c-reading : (s : List ℕ) → AtMostOne (ReadCall s)
   pub c-judging : (s order order′ order″ cycle cycle′ cycle″ : List ℕ) (r r′ : Judged)
@@ -87,6 +102,7 @@ pub record Determined : Type 1 where
       → EqualButCycle (verdict-numbers Tangled) (judged-numbers r) (judged-numbers r′) (r .count) (r′ .count) order′ order″ cycle′ cycle″
   pub c-judging-rest : (s order order′ cycle cycle′ : List ℕ) (r : Judged) → JudgeCall s order order′ cycle cycle′ r → drop (r .count) cycle′ ≡ drop (r .count) cycle
   pub c-testing : (P : Contents → Type 0) (s : List ℕ) → AtMostOne (TestCall P s)
+  pub c-naming : (N : Contents → ArcNames) (s : List ℕ) → AtMostOne (NameCall N s)
   pub c-writing : (s before : List ℕ) → AtMostOnePair (WriteCall s before)
   pub c-opening : (s : List ℕ) → AtMostOne (OpenCall s)
   pub c-calling : (x : Call) (g : Gate) → AtMostOnePair (GateCall x g)

@@ -22,6 +22,9 @@ use Rattle.judge.specs.Judge.{BytesJudged}
 use Rattle.judge.specs.declared.Judgement.{Judgement}
 use Rattle.classes.specs.Tested.{TestedAs}
 use Rattle.classes.specs.declared.Tested.{Tested}
+use Rattle.names.specs.declared.ArcNames.{ArcNames}
+use Rattle.evidence.specs.Named.{NamedAs}
+use Rattle.evidence.specs.declared.Named.{Named}
 use Rattle.gate.specs.Plain.{Call, Answer, State, newly-opened, PlainCall, PlainCallBy, PlainCalls, PlainCallsBy}
 use Rattle.gate.specs.Gate.{answer-of, reply-numbers, book-of, state-of, Sound, OpenedAs, CalledAs}
 use Rattle.gate.specs.Chain.{Chain}
@@ -34,7 +37,7 @@ use Rattle.gate.specs.declared.Reply.{Reply}
 use Rattle.report.specs.Text.{Findings, accepted-with, text-of}
 use Rattle.report.specs.Reporting.{FindingsBy, Reports}
 use Rattle.capi.specs.Numbers.{answered, judged}
-use Rattle.capi.specs.Calls.{TestCall, JudgeCall, GateCall, ReplayCall}
+use Rattle.capi.specs.Calls.{TestCall, NameCall, JudgeCall, GateCall, ReplayCall}
 use Rattle.capi.specs.declared.Answered.{Answered}
 use Rattle.capi.specs.declared.Judged.{Judged}
 use Rattle.claims.specs.OnePass.{Fed}
@@ -73,9 +76,12 @@ module _ (earlier : List Pair → List (List Step) → ℕ → ℕ → ℕ → �
     pub deck-judging : (order order′ cycle cycle′ : List ℕ) (r : Judged) → step-limit ≤ length order → step-limit ≤ length cycle
         → JudgeCall s order order′ cycle cycle′ r ↔ DeckJudgedBefore c order order′ cycle cycle′ r
     -- the tests: P is what one asks of a book b by a conflict k. Relatively serial: RelativelySerial k (unit-of b) (b .history); conflict serializable:
-    -- ConflictSerializable k (b .history); order check, cycle check and arc test: RelativelySerialOrder, Cycle and Arc of k (unit-of b) (b .history)
+    -- ConflictSerializable k (b .history); order check and cycle check: RelativelySerialOrder and Cycle of k (unit-of b) (b .history)
     pub testing : (P : (ℕ → ℕ → ℕ → ℕ → Bool) → Contents → Type 0) (r : Tested) → TestedAs (λ b. P (conflict-of b) b) s r ↔ TestedAs (λ b. P (earlier-of b) b) s r
     pub deck-testing : (P : (ℕ → ℕ → ℕ → ℕ → Bool) → Contents → Type 0) (r : Answered) → TestCall (λ b. P (conflict-of b) b) s r ↔ TestCall (λ b. P (earlier-of b) b) s r
+    -- the arc test: N names the arcs of a book b by a conflict k, names-of k (unit-of b) (b .history) from one place to another
+    pub naming : (N : (ℕ → ℕ → ℕ → ℕ → Bool) → Contents → ArcNames) (r : Named) → NamedAs (λ b. N (conflict-of b) b) s r ↔ NamedAs (λ b. N (earlier-of b) b) s r
+    pub deck-naming : (N : (ℕ → ℕ → ℕ → ℕ → Bool) → Contents → ArcNames) (r : Answered) → NameCall (λ b. N (conflict-of b) b) s r ↔ NameCall (λ b. N (earlier-of b) b) s r
     -- the program's text
     pub reporting : (text text′ : List ℕ) (n : ℕ) → Reports (read s) text text′ n ↔ ReportedBefore c text text′ n
     -- the plain gate
@@ -119,7 +125,7 @@ module _ (earlier : List Pair → List (List Step) → ℕ → ℕ → ℕ → �
 pub record OldBooks : Type 1 where
   -- their conflict is the earlier one,
   pub conflicts : (c : Contents) → WithoutHoming (c .runs) → conflict-of c ≡ before-homing (c .pairs) (c .runs)
-  -- and so is whatever is said by it, as in the contracts of the calls on a valid book: `graph::dependences`, `graph::arcs`, `judge::judge_book`,
+  -- and so is whatever is said by it, as in the contracts of the calls on a valid book: `graph::dependences`, `graph::tables`, `graph::arcs`, `judge::judge_book`,
   -- `judge::passes`, `classes::is_relatively_serial`, `classes::is_conflict_serializable`
   pub by-conflict : (c : Contents) → WithoutHoming (c .runs) → (P : (ℕ → ℕ → ℕ → ℕ → Bool) → Type 0) → P (conflict-of c) ↔ P (before-homing (c .pairs) (c .runs))
   -- What the calls on bytes, those on a gate's record, and a pass over a history give

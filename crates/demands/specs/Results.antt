@@ -1,9 +1,9 @@
--- The demands, that the classes are nested, and the one pass over a history, of what the functions of this crate return or leave in the tables lent to
--- them: the results of the public calls, or answers as these promise them.
+-- The demands, that the classes are nested, the names of arcs, and the one pass over a history, of what the functions of this crate return or leave in the
+-- tables lent to them: the results of the public calls, or answers as these promise them.
 use Prim.Native.Nat.{ℕ, _*_, _/_, _≤_, _<_}
 use mathlib.Core.Path.{_≡_}
 use mathlib.Core.Bool.{Bool, true, false}
-use mathlib.Core.List.{List, [], _∷_, _++_}
+use mathlib.Core.List.{List, [], _∷_, _++_, map}
 use lib.ListN.{length, getD, take}
 use Rattle.bits.specs.Table.{row-words}
 use Rattle.buffer.specs.Put.{Put}
@@ -11,6 +11,7 @@ use Rattle.theory.specs.History.{count}
 use Rattle.theory.specs.Deck.{Step, step-of}
 use Rattle.theory.specs.Answers.{Answers}
 use Rattle.book.specs.Format.{Contents, accepted, step-limit, read}
+use Rattle.book.specs.Numbers.{value-of}
 use Rattle.classes.specs.declared.Tested.the-variants.{Yes}
 use Rattle.judge.specs.declared.Judgement.{Judgement}
 use Rattle.judge.specs.declared.Verdict.the-variants.{Passed}
@@ -21,7 +22,9 @@ use Rattle.gate.specs.Replay.{calls-of, answers-in}
 use Rattle.gate.specs.declared.Gate.{Gate}
 use Rattle.gate.specs.declared.Replayed.{Replayed}
 use Rattle.gate.specs.declared.Played.the-variants.{Done}
-use Rattle.report.specs.Text.{Findings, refused-at, accepted-with, text-of}
+use Rattle.names.specs.Names.{names-value}
+use Rattle.names.specs.declared.ArcNames.{ArcNames}
+use Rattle.report.specs.Text.{Findings, tangled, refused-at, accepted-with, first-letter, text-of}
 use Rattle.report.specs.Reporting.{Reports}
 use Rattle.capi.specs.declared.Answered.{Answered}
 use Rattle.capi.specs.declared.Judged.{Judged}
@@ -30,6 +33,7 @@ use Rattle.claims.specs.OnePass.{Fed, RowsAfter}
 use Rattle.claims.specs.Table.{BookRow, NoRow, JudgeRow, WriterRow, GateRow, ReplayRow}
 use Rattle.claims.specs.Demands.{TurnsAway, BuffersUnchanged, WithoutRuns, answered-numbers, judged-numbers, opened-numbers, Demand2}
 use Rattle.claims.specs.Classes.{OtherCuts, JudgeAnswered, ClassesAnswered, DeckJudgeAnswered, DeckClassesAnswered, SaysYes, SaysPassed, TextSaysPassed, NestedCalls, NestedDeckCalls, NestedFindings}
+use Rattle.claims.specs.ArcsByName.{AllThatHold, Lettered}
 use Rattle.demands.specs.declared.BookAnswers.{BookAnswers}
 use Rattle.demands.specs.declared.ClassAnswers.{ClassAnswers}
 use Rattle.demands.specs.declared.DeckClassAnswers.{DeckClassAnswers}
@@ -101,6 +105,21 @@ pub record NestedText (s before after : List ℕ) (n : ℕ) : Type 0 where
   pub nested : (w : Findings) → promised .report ≡ accepted-with w → NestedFindings w
   pub any-cuts : (s′ : List ℕ) → OtherCuts s s′ → (before′ after′ : List ℕ) (n′ : ℕ) (p′ : Reports (read s′) before′ after′ n′) (w w′ : Findings)
       → promised .report ≡ accepted-with w → p′ .report ≡ accepted-with w′ → w .conflict ≡ true → TextSaysPassed (w′ .verdict)
+
+-- ---- document 02, change 5: arcs by name
+
+-- all of I, D, F and B that hold, by their sum; of a refused book, the reader's numbers
+pub record ArcsNamed (s : List ℕ) (from to : ℕ) (r : Answered) : Type 0 where
+  pub refusals : ByBook s r
+  pub named : (c : Contents) → read s ≡ accepted c → (w : ArcNames) × (answered-numbers r ≡ value-of (names-value w)) × AllThatHold c from to w
+
+-- the letters under a cycle, in the buffer before and after the call
+pub record TextLettered (s before after : List ℕ) (n : ℕ) : Type 0 where
+  pub promised : Reports (read s) before after n
+  pub lettered : (c : Contents) → read s ≡ accepted c → (w : Findings) (cycle : List ℕ) (names : List ArcNames) → promised .report ≡ accepted-with w → w .verdict ≡ tangled cycle names
+      → Lettered c cycle (map first-letter names)
+
+-- ---- document 02, change 3: one pass over the history
 
 -- where x is to be read as place q, the next step of run r, by tables that were fed the steps of l
 pub record StepFed (pairs catalogue catalogue′ dep dep′ : List ℕ) (q r : ℕ) (x : Step) (answer : Bool) : Type 0 where

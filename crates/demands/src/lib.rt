@@ -1,7 +1,7 @@
 // The demands as contracts: `demand_1`, `demand_2` and `demand_3` make the public calls and ensure the demand of what they return; `nested_classes`,
-// `nested_deck_classes` and `nested_text` ask for the classes of a book and ensure that they are nested; `feed_step` has one more step of a history read, and
-// ensures what the one pass over it promises. `claims` states the demands, the nested classes and the one pass, and proves them of whatever meets the calls'
-// contracts.
+// `nested_deck_classes` and `nested_text` ask for the classes of a book and ensure that they are nested; `named_arcs` and `lettered_text` ask for the names of
+// arcs and ensure that they are all that hold, and the first; `feed_step` has one more step of a history read, and ensures what the one pass over it promises.
+// `claims` states all this, and proves it of whatever meets the calls' contracts.
 use bits::Table;
 use book::Answer;
 use book::Book;
@@ -17,7 +17,7 @@ use judge::Verdict;
 ghost use Rattle.book.specs.Book.{Valid, as-step, outcome-by};
 ghost use Rattle.gate.specs.Plain.{step as step-call, withdraw as withdraw-call};
 ghost use Rattle.capi.specs.Calls.{GateCall};
-ghost use Rattle.demands.specs.Results.{BookRefusals, JudgeRefusals, WriteRefusals, ReplayRefusals, TextRefusals, GateRefusals, Demand2Of, Demand3Of, NestedAnswers, NestedDeckAnswers, NestedText, StepFed};
+ghost use Rattle.demands.specs.Results.{BookRefusals, JudgeRefusals, WriteRefusals, ReplayRefusals, TextRefusals, GateRefusals, Demand2Of, Demand3Of, NestedAnswers, NestedDeckAnswers, NestedText, ArcsNamed, TextLettered, StepFed};
 ghost use Rattle.demands.specs.inner.Readings.{OutcomeAnswered};
 
 // What the calls that read a book and change nothing return.
@@ -206,12 +206,13 @@ fn judgement_by(answer: Answer, b: Book) -> Judgement
 {
     let mut order = [0u8; Book::STEPS];
     let mut cycle = [0u8; Book::STEPS];
+    let mut names = [0u8; Book::STEPS];
     match answer {
         Answer::Refused(cause, place) => Judgement {
             verdict: Verdict::Refused(cause, place),
             count: 0,
         },
-        Answer::Accepted => judge::judge_book(b, &mut order, &mut cycle),
+        Answer::Accepted => judge::judge_book(b, &mut order, &mut cycle, &mut names),
     }
 }
 
@@ -263,6 +264,20 @@ pub fn nested_deck_classes(s: &[u8]) -> DeckClassAnswers
 // The five classes of one book, in the program's text.
 pub fn nested_text(s: &[u8], text: &mut [u8; report::TEXT]) -> usize
     ensures { λ r. ⌜ NestedText (now (s .entry)) (now (text .entry)) (now (text .exit)) r ⌝ }
+{
+    report::report(s, text)
+}
+
+// The names of the arcs from one place to another.
+pub fn named_arcs(s: &[u8], from: usize, to: usize) -> Answered
+    ensures { λ r. ⌜ ArcsNamed (now (s .entry)) from to r ⌝ }
+{
+    capi::deck_arc(s, from, to)
+}
+
+// The letters of a cycle's arcs, in the program's text.
+pub fn lettered_text(s: &[u8], text: &mut [u8; report::TEXT]) -> usize
+    ensures { λ r. ⌜ TextLettered (now (s .entry)) (now (text .entry)) (now (text .exit)) r ⌝ }
 {
     report::report(s, text)
 }

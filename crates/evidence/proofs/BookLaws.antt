@@ -1,29 +1,46 @@
--- What the checks over tables say of a valid book's contents.
+-- What the checks and the names over tables say of a valid book's contents, and what the arc test then says of its bytes.
 use Prim.Native.Nat.{ℕ}
 use native.Mathlib.Omega.{arith}
-use mathlib.Core.Path.{_≡_}
+use mathlib.Core.Path.{_≡_, refl}
 use mathlib.Core.Bool.{Bool, true, false, not}
 use mathlib.Core.List.{List}
+use lib.ListN.{take}
 use borrow.Author.Tests.{not-true, not-false}
 use Rattle.theory.specs.Relative.{Depends, Equivalent, RelativelySerial, RelativelySerialOrder}
-use Rattle.theory.specs.Graph.{Arc, Cycle}
-use Rattle.book.specs.Format.{with-history, Allowed}
+use Rattle.theory.specs.Graph.{Cycle}
+use Rattle.book.specs.Format.{Contents, read, with-history, Allowed}
 use Rattle.book.specs.Meaning.{conflict-of, unit-of}
-use Rattle.book.specs.Book.{contents-of, Valid, Represents}
+use Rattle.book.specs.Book.{contents-of, outcome-by, Valid, Represents, ReadAs}
+use Rattle.book.specs.declared.Cause.{Cause}
 use Rattle.book.specs.declared.Book.{Book}
-use Rattle.book.proofs.Books.{history-long, count-is, length-is}
+use Rattle.book.specs.declared.Answer.{Answer}
+use Rattle.book.specs.declared.Answer.the-variants.{Refused as ReadRefused, Accepted}
+use Rattle.book.specs.declared.Reading.{Reading}
+use Rattle.book.proofs.Books.{count-is, length-is}
 use Rattle.theory.specs.Answers.{Answers}
 use Rattle.theory.proofs.Answered.{answer-no, refute}
 use Rattle.graph.specs.Marks.{Marks}
-use Rattle.evidence.specs.inner.Tables.{EquivalentBy, CycleBy, ArcBy}
+use Rattle.names.specs.Names.{names-of}
+use Rattle.graph.specs.inner.Arcs.{TablesBy}
+use Rattle.names.specs.inner.Tables.{NamesBy}
+use Rattle.names.specs.declared.ArcNames.{ArcNames}
+use Rattle.graph.proofs.BookTables.{book-some-tables}
+use Rattle.evidence.specs.declared.Named.{Named}
+use Rattle.evidence.specs.declared.Named.the-variants.{Refused, Arcs}
+use Rattle.evidence.specs.Named.{OutcomeNamed, NamedAs}
+use Rattle.evidence.specs.inner.Books.{named-by}
+use Rattle.evidence.specs.inner.Tables.{EquivalentBy, CycleBy}
 
 module _ (b : Book) (v : Valid b) where
-  module _ (arc : List ℕ) (m : Marks (Arc (conflict-of (contents-of b)) (unit-of (contents-of b)) (contents-of b .history)) arc) (t : Bool) where
-    pub book-cycle : (c : List ℕ) → CycleBy (b .done) arc c t → Answers (Cycle (conflict-of (contents-of b)) (unit-of (contents-of b)) (contents-of b .history) c) t
-    book-cycle c a = a .answers _ _ (contents-of b .history) (history-long b v) m
+  module _ (dep firsts lasts : List ℕ) (t : TablesBy (conflict-of (contents-of b)) (unit-of (contents-of b)) (take (b .done) (b .history)) dep firsts lasts) where
+    pub book-cycle : (c : List ℕ) (r : Bool) → CycleBy (take (b .done) (b .history)) dep firsts lasts c r → Answers (Cycle (conflict-of (contents-of b)) (unit-of (contents-of b)) (contents-of b .history) c) r
+    unfolding contents-of book-some-tables
+    book-cycle c r a = a .answers (book-some-tables b v dep firsts lasts t)
 
-    pub book-arc : (x y : ℕ) → ArcBy (b .done) arc x y t → Answers (Arc (conflict-of (contents-of b)) (unit-of (contents-of b)) (contents-of b .history) x y) t
-    book-arc x y a = a .answers _ _ (contents-of b .history) (history-long b v) m
+    pub book-names : (x y : ℕ) (w : ArcNames) → NamesBy (take (b .done) (b .history)) dep firsts lasts x y w
+        → w ≡ names-of (conflict-of (contents-of b)) (unit-of (contents-of b)) (contents-of b .history) x y
+    unfolding contents-of book-some-tables
+    book-names x y w a = a .by (book-some-tables b v dep firsts lasts t)
 
   module _ (dep : List ℕ) (m : Marks (Depends (conflict-of (contents-of b)) (contents-of b .history)) dep) (l : List ℕ) (t : Bool) (a : EquivalentBy (b .history) (b .done) dep l t) where
     equivalent : Answers (Equivalent (conflict-of (contents-of b)) (contents-of b .history) l) t
@@ -43,3 +60,19 @@ module _ (b : Book) (v : Valid b) where
       order-answer u w q s =
           let r : Answers (RelativelySerial (conflict-of (contents-of b)) (unit-of (contents-of b)) l) q = rw (w .contents) at s in
           record { sound = λ x. record { equivalent = equivalent .sound (not-false t e); serial = r .sound x }; complete = λ x. r .complete (x .serial) }
+
+-- ---- what the arc test says
+
+pub refusal-kept : (m : Answer) (w : ArcNames) (cause : Cause) (place : ℕ) → m ≡ ReadRefused cause place → Refused cause place ≡ named-by m w
+refusal-kept m w cause place e = rw e
+
+pub names-kept : (m : Answer) (w : ArcNames) → m ≡ Accepted → Arcs w ≡ named-by m w
+names-kept m w e = rw e
+
+-- the names in the book that was read are those in its bytes
+pub named : (N : Contents → ArcNames) (s : List ℕ) (r : Reading) → ReadAs (read s) r → (w : ArcNames) → w ≡ N (contents-of (r .book)) → (y : Named) → y ≡ named-by (r .answer) w → NamedAs N s y
+named N s r a w e y is = record { named = rw (← a .outcome, is, e) (go (r .answer)) }
+  where
+    go : (m : Answer) → OutcomeNamed (outcome-by m (r .book)) N (named-by m (N (contents-of (r .book))))
+    go (ReadRefused cause place) = record { refusal = refl; numbers = refl }
+    go Accepted = refl

@@ -1,25 +1,85 @@
--- The walk of the cycle check: the places met so far are below n and distinct, and each has an arc from the one before it, the first from
--- the last. It comes to the end exactly on a cycle. And the arc test.
+-- Some name holds exactly where an arc leads. The walk of the cycle check: the places met so far are distinct, and each has an arc from the one
+-- before it, the first from the last. It comes to the end exactly on a cycle.
 use Prim.Native.Nat.{ℕ, zero, suc, _+_, _-_, _≤_, _<_}
 use native.Mathlib.Nat.{not-suc-le-zero, lt-irrefl}
 use native.Mathlib.Omega.{arith}
 use native.Mathlib.Numerals.{add-one}
-use mathlib.Core.Path.{_≡_, sym, ap, _∙_}
+use mathlib.Core.Path.{_≡_, refl, sym, ap, _∙_}
 use mathlib.Core.Logic.{_⊎_, inl, inr, _≢_}
-use mathlib.Core.Bool.{Bool, true, false}
+use mathlib.Core.Bool.{Bool, true, false, _||_, not}
 use mathlib.Core.List.{List}
-use lib.ListN.{length, getD, replicate}
+use lib.ListN.{length, getD, take, replicate}
 use lib.Dec.{eqb}
-use borrow.Author.Tests.{eqb-true, eq-eqb}
-use Rattle.theory.specs.Graph.{Arc, Cycle}
+use borrow.Author.Tests.{eqb-true, eq-eqb, not-true, not-false}
+use Rattle.theory.specs.Graph.{ArcI, ArcD, ArcF, ArcB, Arc, arc-I, arc-D, arc-F, arc-B, Cycle}
 use Rattle.theory.proofs.Finite.{below-suc}
-use Rattle.theory.proofs.Decided.{arc-source, arc-target}
-use Rattle.bits.specs.Table.{row-bits, rows, bit-at, Marked}
+use Rattle.theory.proofs.Decided.{arc-target}
+use Rattle.bits.specs.Table.{row-bits, bit-at, Marked}
 use Rattle.theory.specs.Answers.{Answers}
-use Rattle.theory.proofs.Answered.{answer-yes, answer-no, false-true}
-use Rattle.graph.specs.Marks.{Marks}
+use Rattle.theory.proofs.Answered.{answer-yes, answer-no, refute, false-true}
+use Rattle.names.specs.Names.{names-of}
+use Rattle.graph.specs.inner.Tables.{HistoryOf}
+use Rattle.graph.specs.inner.Arcs.{TablesOf}
+use Rattle.names.specs.inner.Tables.{NamesBy}
+use Rattle.names.specs.declared.ArcNames.{ArcNames}
+use Rattle.graph.proofs.Counting.{history-length}
+use Rattle.names.proofs.NameLaws.{is-i, is-d, is-f, is-b}
 use Rattle.classes.proofs.Collected.{Collected, collected-none, collected-more}
-use Rattle.evidence.specs.inner.Tables.{Follows, CycleBy, ArcBy}
+use Rattle.evidence.specs.inner.Tables.{any-of, FollowsBy, CycleBy}
+
+-- ---- some name
+
+either : {P Q : Type 0} (s t : Bool) → Answers P s → Answers Q t → Answers (P ⊎ Q) (s || t)
+either true t a b = answer-yes (inl (a .sound refl))
+either {P} {Q} false t a b = record { sound = λ e. inr (b .sound e); complete = go }
+  where
+    go : P ⊎ Q → t ≡ true
+    go (inl p) = absurd (false-true (a .complete p))
+    go (inr q) = b .complete q
+
+module _ (conflict : ℕ → ℕ → ℕ → ℕ → Bool) (unit : ℕ → ℕ → ℕ → ℕ) (h : List ℕ) (x y : ℕ) where
+  abbrev ByName : Type 0
+  ByName = ArcI h x y ⊎ (ArcD conflict h x y ⊎ (ArcF conflict unit h x y ⊎ ArcB conflict unit h x y))
+
+  pub some-name : Answers (Arc conflict unit h x y) (any-of (names-of conflict unit h x y))
+  some-name = record { sound = λ e. to (named .sound e); complete = λ a. named .complete (from a) }
+    where
+      named : Answers ByName (any-of (names-of conflict unit h x y))
+      named = either _ _ (is-i conflict unit h x y) (either _ _ (is-d conflict unit h x y) (either _ _ (is-f conflict unit h x y) (is-b conflict unit h x y)))
+
+      to : ByName → Arc conflict unit h x y
+      to (inl a) = arc-I a
+      to (inr (inl a)) = arc-D a
+      to (inr (inr (inl a))) = arc-F a
+      to (inr (inr (inr a))) = arc-B a
+
+      from : Arc conflict unit h x y → ByName
+      from (arc-I a) = inl a
+      from (arc-D a) = inr (inl a)
+      from (arc-F a) = inr (inr (inl a))
+      from (arc-B a) = inr (inr (inr a))
+
+-- ---- the next place of a walk
+
+module _ (history : List ℕ) (n : ℕ) (w : HistoryOf history n) (dep firsts lasts seen : List ℕ) (before x : ℕ) where
+  pub beyond : n ≤ x → FollowsBy (take n history) dep firsts lasts seen before x false
+  beyond k = record { answers = λ a. answer-no (λ f. lt-irrefl n (omega (arith, arc-target (a .conflict) (a .unit) (f .arc), history-length w))) }
+
+  module _ (t : Bool) (test : t ≡ eqb (bit-at seen 0 x) 1) where
+    pub repeated : t ≡ true → FollowsBy (take n history) dep firsts lasts seen before x false
+    repeated e = record { answers = λ a. answer-no (λ f. f .fresh (eqb-true (bit-at seen 0 x) 1 (sym test ∙ e))) }
+
+    pub followed : t ≡ false → (names : ArcNames) → NamesBy (take n history) dep firsts lasts before x names → (r : Bool) → r ≡ any-of names → FollowsBy (take n history) dep firsts lasts seen before x r
+    followed e names by r is = record {
+      answers = λ a.
+          let s : Answers (Arc (a .conflict) (a .unit) (take n history) before x) r = rw (is, by .by a) (some-name (a .conflict) (a .unit) (take n history) before x) in
+          record {
+            sound = λ y. record { fresh = λ b. false-true (sym e ∙ test ∙ eq-eqb (bit-at seen 0 x) 1 b); arc = s .sound y };
+            complete = λ f. s .complete (f .arc);
+          };
+    }
+
+-- ---- the walk
 
 -- the place before the one at an index, the last before the first
 abbrev pub place-before : List ℕ → ℕ → ℕ
@@ -31,117 +91,75 @@ cycle-arc : {conflict : ℕ → ℕ → ℕ → ℕ → Bool} {unit : ℕ → �
 cycle-arc w zero i = w .back
 cycle-arc w (suc k) i = w .next k i
 
-pub record WalkedUpTo (n : ℕ) (arc c seen : List ℕ) (i before : ℕ) : Type 0 where
+pub record WalkedUpTo (h dep firsts lasts c seen : List ℕ) (i before : ℕ) : Type 0 where
   pub met : Collected seen (λ k. getD c k 0) i
-  pub below : (k : ℕ) → k < i → getD c k 0 < n
   pub distinct : (j k : ℕ) → j < k → k < i → getD c j 0 ≢ getD c k 0
-  pub arcs : (k : ℕ) → k < i → bit-at arc (getD c k 0) (place-before c k) ≡ 1
+  pub arcs : (a : TablesOf h dep firsts lasts) (k : ℕ) → k < i → Arc (a .conflict) (a .unit) h (place-before c k) (getD c k 0)
   pub before-is : before ≡ place-before c i
-  pub before-below : before < n
 
-module _ (n : ℕ) (arc c : List ℕ) where
-  pub too-short : length c < 2 → CycleBy n arc c false
-  too-short k = record { answers = λ conflict unit h e m. answer-no (λ w. lt-irrefl 0 (omega (arith, w .least))) }
+module _ (h dep firsts lasts c : List ℕ) where
+  pub too-short : length c < 2 → CycleBy h dep firsts lasts c false
+  too-short k = record { answers = λ a. answer-no (λ y. lt-irrefl 0 (omega (arith, y .least))) }
 
-  pub too-long : n < length c → CycleBy n arc c false
-  too-long k = record { answers = λ conflict unit h e m. answer-no (λ w. lt-irrefl n (omega (arith, w .most, e))) }
-
-  -- the last place is beyond the history
-  pub last-beyond : (x : ℕ) → x ≡ getD c (length c - 1) 0 → n ≤ x → CycleBy n arc c false
-  last-beyond x is k = record { answers = λ conflict unit h e m. answer-no (λ w. lt-irrefl n (omega (arith, is, arc-source conflict unit (w .back), e))) }
-
-  pub walked-none : (words before : ℕ) → before ≡ getD c (length c - 1) 0 → before < n → WalkedUpTo n arc c (replicate words 0) 0 before
-  walked-none words before is k = record {
+  pub walked-none : (words before : ℕ) → before ≡ getD c (length c - 1) 0 → WalkedUpTo h dep firsts lasts c (replicate words 0) 0 before
+  walked-none words before is = record {
     met = collected-none words _;
-    below = λ j i. absurd (not-suc-le-zero i);
     distinct = λ j k l i. absurd (not-suc-le-zero i);
-    arcs = λ k i. absurd (not-suc-le-zero i);
+    arcs = λ a k i. absurd (not-suc-le-zero i);
     before-is = is;
-    before-below = k;
   }
 
-  module _ (limit : n ≤ rows) (seen : List ℕ) (i before : ℕ) (u : WalkedUpTo n arc c seen i before) where
-    pub walked-all : 2 ≤ length c → length c ≤ n → length c ≤ i → CycleBy n arc c true
+module _ (history : List ℕ) (n : ℕ) (w : HistoryOf history n) (dep firsts lasts c : List ℕ) where
+  pub too-long : n < length c → CycleBy (take n history) dep firsts lasts c false
+  too-long k = record { answers = λ a. answer-no (λ y. lt-irrefl n (omega (arith, y .most, history-length w))) }
+
+  module _ (seen : List ℕ) (i before : ℕ) (u : WalkedUpTo (take n history) dep firsts lasts c seen i before) where
+    pub walked-all : 2 ≤ length c → length c ≤ n → length c ≤ i → CycleBy (take n history) dep firsts lasts c true
     walked-all two few le = record {
-      answers = λ conflict unit h e m. answer-yes (record {
+      answers = λ a. answer-yes (record {
         least = two;
-        most = omega arith;
+        most = rw (history-length w) few;
         distinct = λ j k l x. u .distinct j k l (omega arith);
-        next = λ k x. m .sound (getD c k 0) (getD c (suc k) 0) (small k (omega arith)) (small (suc k) (omega arith)) (u .arcs (suc k) (omega arith));
-        back = m .sound (getD c (length c - 1) 0) (getD c 0 0) (small (length c - 1) (omega arith)) (small 0 (omega arith)) (u .arcs 0 (omega arith));
+        next = λ k x. u .arcs a (suc k) (omega arith);
+        back = u .arcs a 0 (omega arith);
       });
     }
-      where
-        small : (k : ℕ) → k < i → getD c k 0 < row-bits
-        small k x = omega (arith, u .below k x)
 
-    module _ (inside : i < length c) (x : ℕ) (is : x ≡ getD c i 0) where
+    module _ (inside : i < length c) (x : ℕ) (is : x ≡ getD c i 0) (t : Bool) (f : FollowsBy (take n history) dep firsts lasts seen before x t) where
       -- on a cycle the next place follows
-      follows-on : {conflict : ℕ → ℕ → ℕ → ℕ → Bool} {unit : ℕ → ℕ → ℕ → ℕ} {h : List ℕ} → length h ≡ n → Marks (Arc conflict unit h) arc → Cycle conflict unit h c → Follows n arc seen before x
-      follows-on {conflict} {unit} {h} e m w = record {
-        inside = below;
-        fresh = λ b. let z = u .met .sound x (omega (arith, below)) b in w .distinct (z .index) i (z .below) inside (z .value ∙ is);
-        marked = m .complete before x (omega (arith, u .before-below)) (omega (arith, below)) (rw (u .before-is, is) (cycle-arc w i inside));
+      pub not-followed : not t ≡ true → CycleBy (take n history) dep firsts lasts c false
+      not-followed e = record {
+        answers = λ a. answer-no (λ y.
+            let arc = cycle-arc y i inside in
+            refute (f .answers a) (not-true t e) (record {
+              fresh = λ b. let z = u .met .sound x (small (arc-target (a .conflict) (a .unit) arc)) b in y .distinct (z .index) i (z .below) inside (z .value ∙ is);
+              arc = rw (u .before-is, is) arc;
+            }));
       }
         where
-          below : x < n
-          below = omega (arith, is, arc-target conflict unit (cycle-arc w i inside), e)
+          small : getD c i 0 < length (take n history) → x < row-bits
+          small k = omega (arith, is, w .within, history-length w)
 
-      pub not-followed : ¬ Follows n arc seen before x → CycleBy n arc c false
-      not-followed f = record { answers = λ conflict unit h e m. answer-no (λ w. f (follows-on e m w)) }
+      module _ (a : TablesOf (take n history) dep firsts lasts) (e : not t ≡ false) where
+        -- a place with an arc to it is one of the history's
+        pub followed-small : x < row-bits
+        followed-small = omega (arith, arc-target (a .conflict) (a .unit) (f .answers a .sound (not-false t e) .arc), w .within, history-length w)
 
-      pub walked-more : Follows n arc seen before x → (seen′ : List ℕ) → Marked seen seen′ 0 x → WalkedUpTo n arc c seen′ (i + 1) x
-      walked-more f seen′ m = record {
-        met = collected-more seen _ i (u .met) seen′ (λ k j. omega (arith, u .below k j)) (rw is at m);
-        below = λ k j. below k (below-suc (rw (← add-one i) j));
-        distinct = λ j k b d. distinct j k b (below-suc (rw (← add-one i) d));
-        arcs = λ k j. arcs k (below-suc (rw (← add-one i) j));
-        before-is = rw (add-one i) is;
-        before-below = f .inside;
-      }
-        where
-          below : (k : ℕ) → (k ≡ i) ⊎ (k < i) → getD c k 0 < n
-          below k (inl e) = rw (e, ← is) (f .inside)
-          below k (inr j) = u .below k j
+        pub walked-more : (seen′ : List ℕ) → Marked seen seen′ 0 x → WalkedUpTo (take n history) dep firsts lasts c seen′ (i + 1) x
+        walked-more seen′ m = record {
+          met = collected-more seen _ i (u .met) seen′ (λ k j. omega (arith, arc-target (a .conflict) (a .unit) (u .arcs a k j), w .within, history-length w)) (rw is at m);
+          distinct = λ j k b d. distinct j k b (below-suc (rw (← add-one i) d));
+          arcs = λ a k j. arcs a k (below-suc (rw (← add-one i) j));
+          before-is = rw (add-one i) is;
+        }
+          where
+            distinct : (j k : ℕ) → j < k → (k ≡ i) ⊎ (k < i) → getD c j 0 ≢ getD c k 0
+            distinct j k b (inr d) q = u .distinct j k b d q
+            distinct j k b (inl d) q =
+                let z : bit-at seen 0 (getD c j 0) ≡ 1 = u .met .complete j (omega arith) in
+                let v : getD c j 0 ≡ x = q ∙ ap (λ (y : ℕ). getD c y 0) d ∙ sym is in
+                f .answers a .sound (not-false t e) .fresh (rw v at z)
 
-          distinct : (j k : ℕ) → j < k → (k ≡ i) ⊎ (k < i) → getD c j 0 ≢ getD c k 0
-          distinct j k b (inr d) q = u .distinct j k b d q
-          distinct j k b (inl e) q =
-              let z : bit-at seen 0 (getD c j 0) ≡ 1 = u .met .complete j (omega arith) in
-              let v : getD c j 0 ≡ x = q ∙ ap (λ (y : ℕ). getD c y 0) e ∙ sym is in
-              f .fresh (rw v at z)
-
-          arcs : (k : ℕ) → (k ≡ i) ⊎ (k < i) → bit-at arc (getD c k 0) (place-before c k) ≡ 1
-          arcs k (inl e) = rw (e, ← is, ← u .before-is) (f .marked)
-          arcs k (inr j) = u .arcs k j
-
-module _ (n : ℕ) (arc seen : List ℕ) (before x : ℕ) where
-  pub beyond : n ≤ x → Answers (Follows n arc seen before x) false
-  beyond k = answer-no (λ f. lt-irrefl n (omega (arith, f .inside)))
-
-  module _ (t : Bool) (test : t ≡ eqb (bit-at seen 0 x) 1) where
-    pub repeated : t ≡ true → Answers (Follows n arc seen before x) false
-    repeated e = answer-no (λ f. f .fresh (eqb-true (bit-at seen 0 x) 1 (sym test ∙ e)))
-
-    pub followed : x < n → t ≡ false → (l : Bool) → l ≡ eqb (bit-at arc x before) 1 → Answers (Follows n arc seen before x) l
-    followed i e l arc-test = record {
-      sound = λ y. record { inside = i; fresh = λ b. false-true (sym e ∙ test ∙ eq-eqb (bit-at seen 0 x) 1 b); marked = eqb-true (bit-at arc x before) 1 (sym arc-test ∙ y) };
-      complete = λ f. arc-test ∙ eq-eqb (bit-at arc x before) 1 (f .marked);
-    }
-
--- ---- the arc test
-
-module _ (n : ℕ) (arc : List ℕ) (x y : ℕ) where
-  pub source-beyond : n ≤ x → ArcBy n arc x y false
-  source-beyond k = record { answers = λ conflict unit h e m. answer-no (λ a. lt-irrefl n (omega (arith, arc-source conflict unit a, e))) }
-
-  pub target-beyond : n ≤ y → ArcBy n arc x y false
-  target-beyond k = record { answers = λ conflict unit h e m. answer-no (λ a. lt-irrefl n (omega (arith, arc-target conflict unit a, e))) }
-
-  pub arc-marked : n ≤ rows → x < n → y < n → (t : Bool) → t ≡ eqb (bit-at arc y x) 1 → ArcBy n arc x y t
-  arc-marked limit i j t test = record {
-    answers = λ conflict unit h e m. record {
-      sound = λ b. m .sound x y (omega arith) (omega arith) (eqb-true (bit-at arc y x) 1 (sym test ∙ b));
-      complete = λ a. test ∙ eq-eqb (bit-at arc y x) 1 (m .complete x y (omega arith) (omega arith) a);
-    };
-  }
+            arcs : (a : TablesOf (take n history) dep firsts lasts) (k : ℕ) → (k ≡ i) ⊎ (k < i) → Arc (a .conflict) (a .unit) (take n history) (place-before c k) (getD c k 0)
+            arcs a k (inl q) = rw (q, ← is, ← u .before-is) (f .answers a .sound (not-false t e) .arc)
+            arcs a k (inr j) = u .arcs a k j

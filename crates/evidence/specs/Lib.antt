@@ -1,2 +1,3 @@
--- The checks promise what `classes` does of its tests, so there is no statement here: inner is no part of one.
+-- Named: what the arc test of a book's bytes says. The checks promise what `classes` does of its tests. inner is no part of the statement.
+pub mod Named
 pub mod inner

@@ -2,18 +2,34 @@
 use bits::Found;
 use bits::Row;
 use bits::Table;
+use book::Answer;
 use book::Book;
+use book::Cause;
 use classes::Tested;
-ghost use Prim.Native.Nat.{_<_, _≤_};
+use graph::Units;
+use names::ArcNames;
+ghost use mathlib.Core.Path.{_≡_};
+ghost use Prim.Native.Nat.{_≤_};
+ghost use lib.ListN.{take};
 ghost use Rattle.theory.specs.Relative.{RelativelySerialOrder};
-ghost use Rattle.theory.specs.Graph.{Arc, Cycle};
+ghost use Rattle.theory.specs.Graph.{Cycle};
 ghost use Rattle.book.specs.Format.{step-limit};
 ghost use Rattle.book.specs.Book.{Valid, contents-of};
 ghost use Rattle.book.specs.Meaning.{conflict-of, unit-of};
 ghost use Rattle.classes.specs.Tested.{TestedAs};
 ghost use Rattle.theory.specs.Answers.{Answers};
+ghost use Rattle.names.specs.Names.{names-of};
 ghost use Rattle.graph.specs.inner.Tables.{HistoryOf};
-ghost use Rattle.evidence.specs.inner.Tables.{NextStep, EquivalentBy, Follows, CycleBy, ArcBy};
+ghost use Rattle.graph.specs.inner.Arcs.{RunRows, TablesOf};
+ghost use Rattle.evidence.specs.Named.{NamedAs};
+ghost use Rattle.evidence.specs.inner.Tables.{NextStep, EquivalentBy, any-of, FollowsBy, CycleBy};
+ghost use Rattle.evidence.specs.inner.Books.{named-by};
+
+// What the arc test of a book's bytes says: the reader's refusal, or the names of the arcs.
+pub enum Named {
+    Refused(Cause, usize),
+    Arcs(ArcNames),
+}
 
 // The first place of run r that is not taken.
 fn next_step(history: &[u8; Book::STEPS], n: usize, taken: &Row, r: u8) -> Found
@@ -56,10 +72,27 @@ fn equivalent_by(history: &[u8; Book::STEPS], n: usize, dep: &Table, l: &[u8]) -
     true
 }
 
+// Whether any of the names holds.
+fn any(w: ArcNames) -> bool
+    ensures { λ r. ⌜ r ≡ any-of w ⌝ }
+{
+    w.i || (w.d || (w.f || w.b))
+}
+
 // Whether x, a place below n, was not seen and has an arc from the place before it.
-fn follows(arc: &Table, n: usize, seen: &Row, before: usize, x: usize) -> bool
-    requires { ⌜ (n ≤ step-limit) × (before < n) ⌝ }
-    ensures { λ r. ⌜ Answers (Follows n (now (arc .entry)) (now (seen .entry)) before x) r ⌝ }
+fn follows(
+    history: &[u8; Book::STEPS],
+    n: usize,
+    catalogue: &Table,
+    dep: &Table,
+    firsts: &Units,
+    lasts: &Units,
+    seen: &Row,
+    before: usize,
+    x: usize,
+) -> bool
+    requires { ⌜ HistoryOf (now history) n × RunRows (take n (now history)) n (now catalogue) × TablesOf (take n (now history)) (now dep) (now firsts) (now lasts) ⌝ }
+    ensures { λ r. ⌜ FollowsBy (take n (now (history .entry))) (now (dep .entry)) (now (firsts .entry)) (now (lasts .entry)) (now (seen .entry)) before x r ⌝ }
 {
     if x >= n {
         return false;
@@ -67,13 +100,21 @@ fn follows(arc: &Table, n: usize, seen: &Row, before: usize, x: usize) -> bool
     if bits::has(seen, x) {
         return false;
     }
-    bits::marked(arc, x, before)
+    any(names::arc_names(history, n, catalogue, dep, firsts, lasts, before, x))
 }
 
 // Whether c is a cycle: 2 to n places, all distinct, each with an arc from the one before it, the first from the last.
-fn cycle_by(arc: &Table, n: usize, c: &[u8]) -> bool
-    requires { ⌜ n ≤ step-limit ⌝ }
-    ensures { λ r. ⌜ CycleBy n (now (arc .entry)) (now (c .entry)) r ⌝ }
+fn cycle_by(
+    history: &[u8; Book::STEPS],
+    n: usize,
+    catalogue: &Table,
+    dep: &Table,
+    firsts: &Units,
+    lasts: &Units,
+    c: &[u8],
+) -> bool
+    requires { ⌜ HistoryOf (now history) n × RunRows (take n (now history)) n (now catalogue) × TablesOf (take n (now history)) (now dep) (now firsts) (now lasts) ⌝ }
+    ensures { λ r. ⌜ CycleBy (take n (now (history .entry))) (now (dep .entry)) (now (firsts .entry)) (now (lasts .entry)) (now (c .entry)) r ⌝ }
 {
     let len = c.len();
     if len < 2 {
@@ -83,33 +124,16 @@ fn cycle_by(arc: &Table, n: usize, c: &[u8]) -> bool
         return false;
     }
     let mut before = book::wide(c[len - 1]);
-    if before >= n {
-        return false;
-    }
     let mut seen: Row = [0; bits::ROW_WORDS];
     for i in 0..len {
         let x = book::wide(c[i]);
-        if !follows(arc, n, &seen, before, x) {
+        if !follows(history, n, catalogue, dep, firsts, lasts, &seen, before, x) {
             return false;
         }
         bits::add(&mut seen, x);
         before = x;
     }
     true
-}
-
-// Whether an arc leads from the place x to the place y.
-fn arc_by(arc: &Table, n: usize, x: usize, y: usize) -> bool
-    requires { ⌜ n ≤ step-limit ⌝ }
-    ensures { λ r. ⌜ ArcBy n (now (arc .entry)) x y r ⌝ }
-{
-    if x >= n {
-        return false;
-    }
-    if y >= n {
-        return false;
-    }
-    bits::marked(arc, y, x)
 }
 
 // Whether l is a relatively serial order of a valid book's history that agrees with it on all conflicting pairs.
@@ -132,19 +156,37 @@ fn is_cycle(b: Book, c: &[u8]) -> bool
     requires { ⌜ Valid b ⌝ }
     ensures { λ r. ⌜ Answers (Cycle (conflict-of (contents-of b)) (unit-of (contents-of b)) (contents-of b .history) (now (c .entry))) r ⌝ }
 {
-    let mut arc: Table = [0; bits::TABLE_WORDS];
-    graph::arcs(b, &mut arc);
-    cycle_by(&arc, b.done, c)
+    let mut catalogue: Table = [0; bits::TABLE_WORDS];
+    let mut dep: Table = [0; bits::TABLE_WORDS];
+    let mut firsts: Units = [0; graph::UNITS_SIZE];
+    let mut lasts: Units = [0; graph::UNITS_SIZE];
+    graph::tables(b, &mut catalogue, &mut dep, &mut firsts, &mut lasts);
+    let history = b.history;
+    cycle_by(&history, b.done, &catalogue, &dep, &firsts, &lasts, c)
 }
 
-// Whether that graph has an arc from the place x to the place y.
-fn is_arc(b: Book, x: usize, y: usize) -> bool
+// The names of the arcs of that graph from the place x to the place y.
+fn names_of(b: Book, x: usize, y: usize) -> ArcNames
     requires { ⌜ Valid b ⌝ }
-    ensures { λ r. ⌜ Answers (Arc (conflict-of (contents-of b)) (unit-of (contents-of b)) (contents-of b .history) x y) r ⌝ }
+    ensures { λ r. ⌜ r ≡ names-of (conflict-of (contents-of b)) (unit-of (contents-of b)) (contents-of b .history) x y ⌝ }
 {
-    let mut arc: Table = [0; bits::TABLE_WORDS];
-    graph::arcs(b, &mut arc);
-    arc_by(&arc, b.done, x, y)
+    let mut catalogue: Table = [0; bits::TABLE_WORDS];
+    let mut dep: Table = [0; bits::TABLE_WORDS];
+    let mut firsts: Units = [0; graph::UNITS_SIZE];
+    let mut lasts: Units = [0; graph::UNITS_SIZE];
+    graph::tables(b, &mut catalogue, &mut dep, &mut firsts, &mut lasts);
+    let history = b.history;
+    names::arc_names(&history, b.done, &catalogue, &dep, &firsts, &lasts, x, y)
+}
+
+// What the arc test of a book that was read says: the reader's refusal, or the names.
+fn named_by(answer: Answer, w: ArcNames) -> Named
+    ensures { λ r. ⌜ r ≡ named-by answer w ⌝ }
+{
+    match answer {
+        Answer::Refused(cause, place) => Named::Refused(cause, place),
+        Answer::Accepted => Named::Arcs(w),
+    }
 }
 
 // Whether the run numbers l are a relatively serial order of the book's history that agrees with it on all conflicting pairs.
@@ -165,11 +207,11 @@ pub fn cycle_check(s: &[u8], places: &[u8]) -> Tested
     classes::tested_by(answer, is_cycle(reading.book, places))
 }
 
-// Whether an arc leads from the place x to the place y in the graph of the book's history.
-pub fn arc_test(s: &[u8], x: usize, y: usize) -> Tested
-    ensures { λ r. ⌜ TestedAs (λ c. Arc (conflict-of c) (unit-of c) (c .history) x y) (now (s .entry)) r ⌝ }
+// The names of the arcs from the place x to the place y in the graph of the book's history.
+pub fn arc_test(s: &[u8], x: usize, y: usize) -> Named
+    ensures { λ r. ⌜ NamedAs (λ c. names-of (conflict-of c) (unit-of c) (c .history) x y) (now (s .entry)) r ⌝ }
 {
     let reading = reader::read(s);
     let answer = reading.answer;
-    classes::tested_by(answer, is_arc(reading.book, x, y))
+    named_by(answer, names_of(reading.book, x, y))
 }

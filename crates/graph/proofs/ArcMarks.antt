@@ -120,7 +120,7 @@ module _ (history : List ℕ) (n : ℕ) (dep firsts lasts mask : List ℕ) (r q 
     source-sound : (x : ℕ) → x < row-bits → sources x ≡ 1 → (run (take n history) x ≡ r) × Depends (a .conflict) (take n history) x q
     source-sound x hx e = (
       w .mask-is .sound x hx (omega (arith, e, bit-at-lt dep q x, bit-at-lt mask 0 x)) .runs,
-      a .dep-marks .sound x q hx (omega arith) (omega (arith, e, bit-at-lt dep q x, bit-at-lt mask 0 x)),
+      a .by .dep-marks .sound x q hx (omega arith) (omega (arith, e, bit-at-lt dep q x, bit-at-lt mask 0 x)),
     )
 
     below : (x : ℕ) → Depends (a .conflict) (take n history) x q → x < n
@@ -129,7 +129,7 @@ module _ (history : List ℕ) (n : ℕ) (dep firsts lasts mask : List ℕ) (r q 
     source-complete : (x : ℕ) → run (take n history) x ≡ r → Depends (a .conflict) (take n history) x q → sources x ≡ 1
     source-complete x e d =
         let i : x < n = below x d in
-        omega (arith, a .dep-marks .complete x q (omega arith) (omega arith) d, w .mask-is .complete x (omega arith) (record { below = i; runs = e }))
+        omega (arith, a .by .dep-marks .complete x q (omega arith) (omega arith) d, w .mask-is .complete x (omega arith) (record { below = i; runs = e }))
 
     -- every arc comes of a source
     arc-source : (x y : ℕ) → ArcOf (a .conflict) (a .unit) (take n history) r q x y → (p : ℕ) × (run (take n history) p ≡ r) × Depends (a .conflict) (take n history) p q
@@ -175,10 +175,10 @@ module _ (history : List ℕ) (n : ℕ) (dep firsts lasts mask : List ℕ) (r q 
         s-small = rw (← es) (history-small (w .stored) q q-inside)
 
         is-last : LastOf (a .unit) (take n history) (run (take n history) q) l e
-        is-last = rw (es, ee) (a .lasts-are .at l s (omega arith) (rw (history-length (w .stored)) (below l (last-source .depends))) s-small)
+        is-last = rw (es, ee) (a .by .lasts-are .at l s (omega arith) (rw (history-length (w .stored)) (below l (last-source .depends))) s-small)
 
         is-first : FirstOf (a .unit) (take n history) r q f
-        is-first = rw ef (a .firsts-are .at q r (omega arith) q-inside (w .small))
+        is-first = rw ef (a .by .firsts-are .at q r (omega arith) q-inside (w .small))
 
         arc-of : (x : ℕ) → x < row-bits → sources x ≡ 1 → (run (take n history) x ≡ r) × ArcD (a .conflict) (take n history) x q
         arc-of x hx k = let z = source-sound x hx k in (z .0, record { other = λ c. ne (sym (z .0) ∙ c ∙ es); depends = z .1 })
@@ -190,7 +190,7 @@ module _ (history : List ℕ) (n : ℕ) (dep firsts lasts mask : List ℕ) (r q 
         from x y (by-I g i z) = absurd (ne (sym g ∙ i .runs ∙ es))
         from x y (by-D g d z) = inr (inl (source-complete x g (d .depends), z))
         from x y (by-B g d k) = inr (inr (source-complete x g (d .depends), first-unique (a .unit) (take n history) r q y f k is-first))
-        from x y (by-F p g d k z) = by (last-covers (a .conflict) (take n history) (a .unit) (a .rises) r q l p x last-source g d k)
+        from x y (by-F p g d k z) = by (last-covers (a .conflict) (take n history) (a .unit) (a .by .rises) r q l p x last-source g d k)
           where
             by : ArcD (a .conflict) (take n history) x q ⊎ LastOf (a .unit) (take n history) (run (take n history) q) l x → Across x y
             by (inl c) = inr (inl (source-complete x (k .member .runs ∙ g) (c .depends), z))
@@ -241,10 +241,10 @@ rowed history n t hs f w = record { small = λ p o i ho. omega (arith, f o p (ge
 
 module _ (history : List ℕ) (n : ℕ) (dep firsts lasts mask : List ℕ) (r : ℕ) (w : ArcInput history n dep firsts lasts mask r) where
   pub input-firsts : Rowed n firsts
-  input-firsts = rowed history n firsts (w .stored) (λ o p f e. e .inside) (w .tables .firsts-are)
+  input-firsts = rowed history n firsts (w .stored) (λ o p f e. e .inside) (w .tables .by .firsts-are)
 
   pub input-lasts : Rowed n lasts
-  input-lasts = rowed history n lasts (w .stored) (λ o p f e. e .inside) (w .tables .lasts-are)
+  input-lasts = rowed history n lasts (w .stored) (λ o p f e. e .inside) (w .tables .by .lasts-are)
 
 pub place-at : (n : ℕ) (t : List ℕ) (p o r : ℕ) → Rowed n t → p < n → o < run-limit → r ≡ getD t (p * run-limit + o) 0 → NumberAt t (p * run-limit + o) step-limit r
 place-at n t p o r a i j e = record { is = e; small = rw e (a .small p o i j) }

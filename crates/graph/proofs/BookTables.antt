@@ -28,7 +28,7 @@ use Rattle.graph.specs.Units.{UnchangedFrom, UnitTables}
 use Rattle.graph.specs.inner.Tables.{Small, HistoryOf, Declared, RunsRoom, step-in, Counts, CutsOf, EachBy}
 use Rattle.graph.specs.Dependence.{StepsRead}
 use Rattle.graph.specs.inner.Reading.{ReadFromCodes}
-use Rattle.graph.specs.inner.Arcs.{RunRows, TablesOf, ArcRows}
+use Rattle.graph.specs.inner.Arcs.{RunRows, TablesOf, TablesBy, ArcRows}
 use Rattle.graph.proofs.Counting.{history-length, history-run}
 use Rattle.graph.proofs.Catalogue.{run-rows}
 use Rattle.theory.proofs.Lists.{sum-take, sum-take-le, sum-front}
@@ -196,21 +196,21 @@ module _ (b : Book) (v : Valid b) where
 
   -- ---- arcs
 
-  unfoldable pub book-tables : (catalogue dep firsts firsts′ lasts lasts′ : List ℕ) → ReadFromCodes (b .pairs) h (b .lengths) (b .steps) catalogue dep
+  pub book-tables : (catalogue dep firsts firsts′ lasts lasts′ : List ℕ) → ReadFromCodes (b .pairs) h (b .lengths) (b .steps) catalogue dep
       → UnitTables (unit-of (contents-of b)) (contents-of b .history) firsts firsts′ lasts lasts′
-      → TablesOf h dep firsts′ lasts′
+      → TablesBy (conflict-of (contents-of b)) (unit-of (contents-of b)) h dep firsts′ lasts′
   unfolding contents-of
   book-tables catalogue dep firsts firsts′ lasts lasts′ d u = record {
-    conflict = conflict-of (contents-of b);
-    unit = unit-of (contents-of b);
     rises = book-cuts .rises;
     dep-marks = book-read catalogue dep d .so-far;
     firsts-are = u .firsts-are;
     lasts-are = u .lasts-are;
   }
 
-  pub book-arcs : (catalogue dep firsts firsts′ lasts lasts′ arc : List ℕ) → ReadFromCodes (b .pairs) h (b .lengths) (b .steps) catalogue dep
-      → UnitTables (unit-of (contents-of b)) (contents-of b .history) firsts firsts′ lasts lasts′
-      → ArcRows h dep firsts′ lasts′ arc → Marks (Arc (conflict-of (contents-of b)) (unit-of (contents-of b)) (contents-of b .history)) arc
-  unfolding contents-of book-tables
-  book-arcs catalogue dep firsts firsts′ lasts lasts′ arc d u r = r .marks (book-tables catalogue dep firsts firsts′ lasts lasts′ d u)
+  module _ (dep firsts lasts : List ℕ) (t : TablesBy (conflict-of (contents-of b)) (unit-of (contents-of b)) h dep firsts lasts) where
+    unfoldable pub book-some-tables : TablesOf h dep firsts lasts
+    book-some-tables = record { conflict = conflict-of (contents-of b); unit = unit-of (contents-of b); by = t }
+
+    pub book-arcs : (arc : List ℕ) → ArcRows h dep firsts lasts arc → Marks (Arc (conflict-of (contents-of b)) (unit-of (contents-of b)) (contents-of b .history)) arc
+    unfolding contents-of book-some-tables
+    book-arcs arc r = r .marks book-some-tables

@@ -17,12 +17,12 @@ ghost use Rattle.book.specs.Book.{code-limit, as-step, pairs-of, Valid, content
 ghost use Rattle.book.specs.Meaning.{conflict-of, unit-of};
 ghost use Rattle.graph.specs.Marks.{Marks};
 ghost use Rattle.graph.specs.Units.{units-size, UnchangedFrom, UnitTables};
-ghost use Rattle.graph.specs.Catalogue.{parts};
+ghost use Rattle.graph.specs.Catalogue.{base, run-part, parts};
 ghost use Rattle.graph.specs.Dependence.{Blank, StepRead, StepAnswered};
 ghost use Rattle.graph.specs.inner.Reading.{PartRow, HomesAs, OtherHomeRow, Entered, Finds, Paired, KindAdded, ConflictsWith, Linked, RowFrom, ReadFromCodes};
 ghost use Rattle.graph.specs.inner.Tables.{places-size, Small, HistoryOf, Declared, NumberAt, StepAt, Starts, RunsRoom, Numbering, Counts, EachBy, RowRoom, RowSet, by-flag, copied-row};
-ghost use Rattle.graph.specs.inner.Arcs.{ArcOf, ArcOfPlaces, RunRows, TablesOf, GainedBy, ArcRows, ArcInput, Rowed};
-ghost use Rattle.bits.specs.Table.{bit-at, intersection};
+ghost use Rattle.graph.specs.inner.Arcs.{ArcOf, ArcOfPlaces, RunRows, TablesBy, TablesOf, GainedBy, ArcRows, ArcInput, Rowed};
+ghost use Rattle.bits.specs.Table.{bit-at, intersection, RowCopied};
 ghost use Rattle.bits.specs.Last.{LastAt};
 
 // The size of a table of a place for each place and each run.
@@ -530,6 +530,14 @@ fn arcs_from(
     }
 }
 
+// The places of run r.
+pub fn run_places(catalogue: &Table, r: usize) -> Row
+    requires { ⌜ r < run-limit ⌝ }
+    ensures { λ m. ⌜ RowCopied (now (catalogue .entry)) (run-part * base + r) m ⌝ }
+{
+    bits::row_of(catalogue, RUN_PART * BASE + r)
+}
+
 // The arc rows, run after run. The catalogue has the places of each run.
 fn arc_rows(
     history: &[u8; Book::STEPS],
@@ -547,44 +555,54 @@ fn arc_rows(
     *arc = [0; bits::TABLE_WORDS];
     let mut r = 0;
     while r < declared {
-        let mask = bits::row_of(catalogue, RUN_PART * BASE + r);
+        let mask = run_places(catalogue, r);
         arcs_from(history, n, dep, firsts, lasts, &mask, r, arc);
         r += 1;
     }
 }
 
-// The arc table of the book's history: bit x of row y where an arc leads from x to y.
-pub fn arcs(b: Book, arc: &mut Table)
-    requires { ⌜ Valid b ⌝ }
-    ensures { λ r. ⌜ Marks (Arc (conflict-of (contents-of b)) (unit-of (contents-of b)) (contents-of b .history)) (now (arc .exit)) ⌝ }
+// The tables of the book's history: the catalogue, the dependence table, and the first and the last place of each place's unit as seen by each run.
+pub fn tables(
+    b: Book,
+    catalogue: &mut Table,
+    dep: &mut Table,
+    firsts: &mut Units,
+    lasts: &mut Units,
+)
+    requires { ⌜ Valid b × Blank (now catalogue) × Blank (now dep) ⌝ }
+    ensures { λ _. ⌜ RunRows (take (b .done) (b .history)) (b .done) (now (catalogue .exit)) × TablesBy (conflict-of (contents-of b)) (unit-of (contents-of b)) (take (b .done) (b .history)) (now (dep .exit)) (now (firsts .exit)) (now (lasts .exit)) ⌝ }
 {
     let history = b.history;
     let lengths = b.lengths;
     let steps = b.steps;
     let pairs = b.pairs;
-    let n = b.done;
-    let mut catalogue = [0; bits::TABLE_WORDS];
-    let mut dep = [0; bits::TABLE_WORDS];
-    read_steps(
-        &history,
-        n,
-        &lengths,
-        &steps,
-        &pairs,
-        &mut catalogue,
-        &mut dep,
-    );
-    let mut firsts = [0u8; UNITS_SIZE];
-    let mut lasts = [0u8; UNITS_SIZE];
-    units(b, &mut firsts, &mut lasts);
+    read_steps(&history, b.done, &lengths, &steps, &pairs, catalogue, dep);
+    units(b, firsts, lasts);
+}
+
+// These tables and the arc table: bit x of row y where an arc leads from x to y.
+pub fn arcs(
+    b: Book,
+    catalogue: &mut Table,
+    dep: &mut Table,
+    firsts: &mut Units,
+    lasts: &mut Units,
+    arc: &mut Table,
+)
+    requires { ⌜ Valid b × Blank (now catalogue) × Blank (now dep) ⌝ }
+    ensures { λ _. ⌜ RunRows (take (b .done) (b .history)) (b .done) (now (catalogue .exit)) × TablesBy (conflict-of (contents-of b)) (unit-of (contents-of b)) (take (b .done) (b .history)) (now (dep .exit)) (now (firsts .exit)) (now (lasts .exit)) ⌝ }
+    ensures { λ _. ⌜ Marks (Arc (conflict-of (contents-of b)) (unit-of (contents-of b)) (contents-of b .history)) (now (arc .exit)) ⌝ }
+{
+    tables(b, catalogue, dep, firsts, lasts);
+    let history = b.history;
     arc_rows(
         &history,
-        n,
+        b.done,
         b.declared,
-        &catalogue,
-        &dep,
-        &firsts,
-        &lasts,
+        catalogue,
+        dep,
+        firsts,
+        lasts,
         arc,
     );
 }

@@ -8,6 +8,7 @@ use Rattle.theory.specs.Graph.{Arc}
 use Rattle.theory.proofs.DeckLaws.{lawful}
 use Rattle.theory.specs.Answers.{Answers}
 use Rattle.graph.specs.Marks.{Marks}
+use Rattle.graph.specs.inner.Arcs.{TablesBy}
 use Rattle.graph.proofs.BookTables.{book-history}
 use Rattle.book.specs.Meaning.{conflict-of, unit-of}
 use Rattle.book.specs.Book.{contents-of, Valid}
@@ -15,6 +16,8 @@ use Rattle.book.specs.declared.Book.{Book}
 use Rattle.judge.specs.Judged.{JudgedAs}
 use Rattle.judge.specs.inner.Turns.{TurnsTaken}
 use Rattle.judge.specs.inner.Arcs.{ArcTable, JudgedArcs}
+use Rattle.judge.specs.inner.Names.{EvidenceNamed, EvidenceNamedBy}
+use Rattle.judge.specs.declared.Verdict.{Verdict}
 use Rattle.judge.specs.declared.Judgement.{Judgement}
 use Rattle.judge.specs.declared.Turns.{Turns}
 use Rattle.judge.proofs.Verdicts.{passes-by}
@@ -34,3 +37,11 @@ module _ (b : Book) (arc : List ℕ) (m : Marks (Arc (conflict-of (contents-of b
   unfolding contents-of
   book-passes t v ta =
       passes-by (b .history) (b .done) arc (book-history b v) (conflict-of (contents-of b)) (unit-of (contents-of b)) m t ta (lawful (contents-of b .pairs) (contents-of b .runs))
+
+-- the names by the tables are those of the book's own conflict and unit
+pub book-named : (b : Book) (dep firsts lasts cycle names names′ : List ℕ) (verdict : Verdict) (count : ℕ)
+    → TablesBy (conflict-of (contents-of b)) (unit-of (contents-of b)) (take (b .done) (b .history)) dep firsts lasts
+    → EvidenceNamedBy (take (b .done) (b .history)) dep firsts lasts cycle names names′ verdict count
+    → EvidenceNamed (conflict-of (contents-of b)) (unit-of (contents-of b)) (contents-of b .history) cycle names names′ verdict count
+unfolding contents-of
+book-named b dep firsts lasts cycle names names′ verdict count t e = e .by (record { conflict = conflict-of (contents-of b); unit = unit-of (contents-of b); by = t })

@@ -3,6 +3,7 @@
 --   GreedyTurns   a turn of `greedy` is one of theory's greedy order
 --   WalkBack      `find_cycle`: the places walked are distinct, so one comes again
 --   Verdicts      `judge_arcs`, `passes`: turns that take every place are a relatively serial order; else there is a cycle
+--   NamedCycles   `name_arcs`: the value of the names of each arc of a cycle
 --   BookHistory   `judge_book`, `passes`: the table marks the arcs of the book's own conflict and unit
 --   Bytes         `judge`, of the book that the reader hands over
 --   Uncut         for demand 2: passed exactly if relatively serializable, and without cuts if conflict serializable
@@ -12,6 +13,7 @@ pub mod ReadyPlaces
 pub mod GreedyTurns
 pub mod WalkBack
 pub mod Verdicts
+pub mod NamedCycles
 pub mod BookHistory
 pub mod Bytes
 pub mod Uncut

@@ -2,11 +2,11 @@
 use Prim.Native.Nat.{ℕ, _-_, _≤_, _<_}
 use native.Mathlib.Decide.{ℕ-discrete, decLe}
 use native.Mathlib.Omega.{arith}
-use mathlib.Core.Path.{_≡_, refl, sym, _∙_}
+use mathlib.Core.Path.{_≡_, refl, sym, ap, _∙_}
 use mathlib.Core.Logic.{_⊎_, inl, inr}
 use mathlib.Core.Bool.{Bool, true}
 use mathlib.Core.List.{List}
-use lib.ListN.{length, getD, take, length-take}
+use lib.ListN.{length, getD, take, drop, length-take, length-append}
 use lib.Dec.{eqb}
 use borrow.Author.Tests.{eqb-true, eq-eqb}
 use Rattle.theory.specs.Relative.{Lawful, RelativelySerialOrder, RelativelySerializable}
@@ -154,8 +154,14 @@ turns-fit history n turns order hs l = omega (arith, length-take n turns, hs .wi
 pub judge-passed : (history : List ℕ) (n : ℕ) (arc : List ℕ) (t : Turns) (order order′ cycle : List ℕ) (k : ℕ) → HistoryOf history n → TurnsTaken history n arc t
     → t .count ≡ n → Put (take n (t .order)) order order′ k
     → JudgedArcs (take n history) arc order order′ cycle cycle (record { verdict = Passed; count = n })
-judge-passed history n arc t order order′ cycle k hs ta e p = record { judged = λ conflict unit law marks. passed-as history n arc hs conflict unit marks t ta law e order order′ cycle k p }
+judge-passed history n arc t order order′ cycle k hs ta e p = record { judged = λ conflict unit law marks. passed-as history n arc hs conflict unit marks t ta law e order order′ cycle k p; counted = tt }
 
 pub judge-tangled : (history : List ℕ) (n : ℕ) (arc order cycle cycle′ : List ℕ) (count : ℕ) → HistoryOf history n → CycleIn arc n cycle cycle′ count
     → JudgedArcs (take n history) arc order order cycle cycle′ (record { verdict = Tangled; count = count })
-judge-tangled history n arc order cycle cycle′ count hs c = record { judged = λ conflict unit law marks. tangled-as history n arc hs conflict unit marks order cycle cycle′ count c }
+judge-tangled history n arc order cycle cycle′ count hs c = record {
+  judged = λ conflict unit law marks. tangled-as history n arc hs conflict unit marks order cycle cycle′ count c;
+  counted = record {
+    inside = omega (arith, c .written .count, ap length (c .written .bytes), length-append (c .places) (drop (length (c .places)) cycle));
+    few = omega (arith, c .most, hs .within);
+  };
+}

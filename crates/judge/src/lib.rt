@@ -5,6 +5,7 @@ use bits::Table;
 use book::Answer;
 use book::Book;
 use book::Cause;
+use graph::Units;
 ghost use mathlib.Core.Path.{_≡_};
 ghost use Prim.Native.Nat.{_<_, _≤_};
 ghost use lib.ListN.{length, take};
@@ -14,6 +15,7 @@ ghost use Rattle.book.specs.Meaning.{conflict-of, unit-of, RelativelySerializab
 ghost use Rattle.book.specs.Book.{contents-of, Valid};
 ghost use Rattle.theory.specs.Answers.{Answers};
 ghost use Rattle.graph.specs.inner.Tables.{HistoryOf};
+ghost use Rattle.graph.specs.inner.Arcs.{RunRows, TablesOf};
 ghost use Rattle.judge.specs.Judged.{JudgedAs};
 ghost use Rattle.judge.specs.Judge.{BytesJudged};
 ghost use Rattle.judge.specs.Front.{front-of, front-at};
@@ -21,6 +23,7 @@ ghost use Rattle.judge.specs.declared.Verdict.the-variants.{Refused};
 ghost use Rattle.judge.specs.inner.Turns.{ReadyIn, AllTaken, FirstUntaken, FirstReady, TurnsTaken};
 ghost use Rattle.judge.specs.inner.Cycles.{Stuck, CycleIn};
 ghost use Rattle.judge.specs.inner.Arcs.{ArcTable, JudgedArcs};
+ghost use Rattle.judge.specs.inner.Names.{After, ValueBy, ValuesBy, CycleCounted, EvidenceNamed, EvidenceNamedBy};
 
 // What the judge says of a history: passed, if it is relatively serializable, else tangled; or refused, with the cause and the place.
 pub enum Verdict {
@@ -180,15 +183,129 @@ fn judge_arcs(
     }
 }
 
-// The judge of a valid book's history.
-pub fn judge_book(b: Book, order: &mut [u8], cycle: &mut [u8]) -> Judgement
-    requires { ⌜ Valid b × (step-limit ≤ length (now order)) × (step-limit ≤ length (now cycle)) ⌝ }
-    ensures { λ r. ⌜ JudgedAs (conflict-of (contents-of b)) (unit-of (contents-of b)) (contents-of b .history) (now (order .entry)) (now (order .exit)) (now (cycle .entry)) (now (cycle .exit)) (r .verdict) (r .count) ⌝ }
+// The index after i on a cycle of len places.
+fn after(i: usize, len: usize) -> usize
+    requires { ⌜ i < len ⌝ }
+    ensures { λ k. ⌜ After i len k ⌝ }
 {
+    if i + 1 < len { i + 1 } else { 0 }
+}
+
+// The value of the names of arc i of the cycle of the first len places: from place i to the one after.
+fn arc_value(
+    history: &[u8; Book::STEPS],
+    n: usize,
+    catalogue: &Table,
+    dep: &Table,
+    firsts: &Units,
+    lasts: &Units,
+    cycle: &[u8],
+    len: usize,
+    i: usize,
+) -> u8
+    requires { ⌜ HistoryOf (now history) n × RunRows (take n (now history)) n (now catalogue) × TablesOf (take n (now history)) (now dep) (now firsts) (now lasts) × (len ≤ length (now cycle)) × (i < len) ⌝ }
+    ensures { λ v. ⌜ ValueBy (take n (now (history .entry))) (now (dep .entry)) (now (firsts .entry)) (now (lasts .entry)) (take len (now (cycle .entry))) i v ⌝ }
+{
+    let x = book::wide(cycle[i]);
+    let y = book::wide(cycle[after(i, len)]);
+    let w = names::arc_names(history, n, catalogue, dep, firsts, lasts, x, y);
+    names::names_value(w)
+}
+
+// The value of the names of each arc of that cycle in turn, the one back to the first place last.
+fn name_arcs(
+    history: &[u8; Book::STEPS],
+    n: usize,
+    catalogue: &Table,
+    dep: &Table,
+    firsts: &Units,
+    lasts: &Units,
+    cycle: &[u8],
+    len: usize,
+    names: &mut [u8],
+)
+    requires { ⌜ HistoryOf (now history) n × RunRows (take n (now history)) n (now catalogue) × TablesOf (take n (now history)) (now dep) (now firsts) (now lasts) × (len ≤ length (now cycle)) × (len ≤ length (now names)) ⌝ }
+    ensures { λ _. ⌜ ValuesBy (take n (now (history .entry))) (now (dep .entry)) (now (firsts .entry)) (now (lasts .entry)) (take len (now (cycle .entry))) (now (names .exit)) ⌝ }
+{
+    let mut i = 0;
+    while i < len {
+        names[i] = arc_value(history, n, catalogue, dep, firsts, lasts, cycle, len, i);
+        i += 1;
+    }
+}
+
+// The same of the cycle of a judgement that is tangled.
+fn name_evidence(
+    history: &[u8; Book::STEPS],
+    n: usize,
+    catalogue: &Table,
+    dep: &Table,
+    firsts: &Units,
+    lasts: &Units,
+    verdict: Verdict,
+    count: usize,
+    cycle: &[u8],
+    names: &mut [u8],
+)
+    requires { ⌜ HistoryOf (now history) n × RunRows (take n (now history)) n (now catalogue) × TablesOf (take n (now history)) (now dep) (now firsts) (now lasts) × CycleCounted (now cycle) verdict count × (step-limit ≤ length (now names)) ⌝ }
+    ensures { λ _. ⌜ EvidenceNamedBy (take n (now (history .entry))) (now (dep .entry)) (now (firsts .entry)) (now (lasts .entry)) (now (cycle .entry)) (now (names .entry)) (now (names .exit)) verdict count ⌝ }
+{
+    match verdict {
+        Verdict::Tangled => {
+            name_arcs(
+                history,
+                n,
+                catalogue,
+                dep,
+                firsts,
+                lasts,
+                cycle,
+                count,
+                names,
+            );
+        }
+        Verdict::Passed => {}
+        Verdict::Refused(_, _) => {}
+    }
+}
+
+// The judge of a valid book's history. If it is tangled, `names` has the value of the names of each arc of the cycle, for whoever prints them.
+pub fn judge_book(b: Book, order: &mut [u8], cycle: &mut [u8], names: &mut [u8]) -> Judgement
+    requires { ⌜ Valid b × (step-limit ≤ length (now order)) × (step-limit ≤ length (now cycle)) × (step-limit ≤ length (now names)) ⌝ }
+    ensures { λ r. ⌜ JudgedAs (conflict-of (contents-of b)) (unit-of (contents-of b)) (contents-of b .history) (now (order .entry)) (now (order .exit)) (now (cycle .entry)) (now (cycle .exit)) (r .verdict) (r .count) ⌝ }
+    ensures { λ r. ⌜ EvidenceNamed (conflict-of (contents-of b)) (unit-of (contents-of b)) (contents-of b .history) (now (cycle .exit)) (now (names .entry)) (now (names .exit)) (r .verdict) (r .count) ⌝ }
+{
+    let mut catalogue = [0u64; bits::TABLE_WORDS];
+    let mut dep = [0u64; bits::TABLE_WORDS];
+    let mut firsts = [0u8; graph::UNITS_SIZE];
+    let mut lasts = [0u8; graph::UNITS_SIZE];
     let mut arc = [0u64; bits::TABLE_WORDS];
-    graph::arcs(b, &mut arc);
+    graph::arcs(
+        b,
+        &mut catalogue,
+        &mut dep,
+        &mut firsts,
+        &mut lasts,
+        &mut arc,
+    );
     let history = b.history;
-    judge_arcs(&history, b.done, &arc, order, cycle)
+    let n = b.done;
+    let judgement = judge_arcs(&history, n, &arc, order, cycle);
+    let verdict = judgement.verdict;
+    let count = judgement.count;
+    name_evidence(
+        &history,
+        n,
+        &catalogue,
+        &dep,
+        &firsts,
+        &lasts,
+        verdict,
+        count,
+        cycle,
+        names,
+    );
+    judgement
 }
 
 // Whether the judge passes a valid book's history, without evidence: whether the turns take every place.
@@ -196,8 +313,19 @@ pub fn passes(b: Book) -> bool
     requires { ⌜ Valid b ⌝ }
     ensures { λ r. ⌜ Answers (RelativelySerializableHistory (contents-of b)) r ⌝ }
 {
+    let mut catalogue = [0u64; bits::TABLE_WORDS];
+    let mut dep = [0u64; bits::TABLE_WORDS];
+    let mut firsts = [0u8; graph::UNITS_SIZE];
+    let mut lasts = [0u8; graph::UNITS_SIZE];
     let mut arc = [0u64; bits::TABLE_WORDS];
-    graph::arcs(b, &mut arc);
+    graph::arcs(
+        b,
+        &mut catalogue,
+        &mut dep,
+        &mut firsts,
+        &mut lasts,
+        &mut arc,
+    );
     let history = b.history;
     let n = b.done;
     let turns = greedy(&history, n, &arc);
@@ -230,7 +358,8 @@ pub fn judge(s: &[u8], order: &mut [u8], cycle: &mut [u8]) -> Judgement
         Answer::Refused(cause, place) => refused(cause, place),
         Answer::Accepted => {
             let b = reading.book;
-            judge_book(b, order, cycle)
+            let mut names = [0u8; Book::STEPS];
+            judge_book(b, order, cycle, &mut names)
         }
     }
 }

@@ -3,7 +3,7 @@ use Prim.Native.Nat.{ℕ, _≤_, _<_}
 use native.Mathlib.Omega.{arith}
 use mathlib.Core.Path.{_≡_, refl, sym, ap, _∙_}
 use mathlib.Core.Bool.{Bool, true, false}
-use mathlib.Core.List.{List, [], _++_}
+use mathlib.Core.List.{List, [], _++_, map}
 use lib.ListN.{length, take, drop, length-append, length-drop, length-take}
 use lib.Seq.{take-at}
 use lib.Dec.{leb}
@@ -22,7 +22,9 @@ use Rattle.book.specs.declared.Reading.{Reading}
 use Rattle.book.proofs.Books.{done-within, history-long}
 use Rattle.theory.specs.Answers.{Answers}
 use Rattle.theory.proofs.Answered.{refute}
+use Rattle.names.specs.Names.{names-value, cycle-names}
 use Rattle.judge.specs.Judged.{JudgedAs}
+use Rattle.judge.specs.inner.Names.{EvidenceNamed}
 use Rattle.judge.specs.Front.{first-bytes, front-of}
 use Rattle.judge.specs.declared.Verdict.{Verdict}
 use Rattle.judge.specs.declared.Verdict.the-variants.{Refused as JudgeRefused, Passed, Tangled}
@@ -30,8 +32,9 @@ use Rattle.judge.specs.declared.Judgement.{Judgement}
 use Rattle.report.specs.Text.{Report, refused-at, text-of}
 use Rattle.report.specs.Reporting.{VerdictOn, ClassesOn, FindingsOn, ReportOn, Reports}
 use Rattle.report.specs.inner.Widths.{number-limit}
-use Rattle.report.specs.inner.Lines.{verdict-by, findings, is-passed}
+use Rattle.report.specs.inner.Lines.{names-by, verdict-by, findings, is-passed}
 use Rattle.report.specs.declared.Classes.{Classes}
+use Rattle.report.proofs.NameLetters.{values-back}
 
 -- ---- the class tests
 
@@ -64,25 +67,33 @@ front-short Tangled n order cycle a b = omega (arith, first-short n cycle)
 pub list-short : (v : Verdict) (n : ℕ) (order cycle : List ℕ) {list : List ℕ} → list ≡ front-of v n order cycle → length order ≡ step-limit → length cycle ≡ step-limit → length list ≤ step-limit
 list-short v n order cycle e a b = rw e (front-short v n order cycle a b)
 
-module _ (order order′ cycle cycle′ : List ℕ) (same : length order′ ≡ length order) (long : step-limit ≤ length order) where
+module _ (order order′ cycle cycle′ names names′ : List ℕ) (same : length order′ ≡ length order) (long : step-limit ≤ length order) (room : step-limit ≤ length names′) where
   verdict-on : (c : Contents) → length (c .history) ≤ step-limit → (v : Verdict) (n : ℕ) → JudgedAs (conflict-of c) (unit-of c) (c .history) order order′ cycle cycle′ v n
-      → VerdictOn c (verdict-by (is-passed v) (front-of v n order′ cycle′))
-  verdict-on c few (JudgeRefused cause place) n j = absurd j
-  verdict-on c few Passed n j =
+      → EvidenceNamed (conflict-of c) (unit-of c) (c .history) cycle′ names names′ v n
+      → VerdictOn c (verdict-by (is-passed v) (front-of v n order′ cycle′) (front-of v n order′ names′))
+  verdict-on c few (JudgeRefused cause place) n j e = absurd j
+  verdict-on c few Passed n j e =
       let size : length (c .history) ≡ length (j .taken) = put-size (j .taken) order order′ (length (c .history)) (j .order-is) same (omega arith) in
       let front : first-bytes n order′ ≡ j .taken = rw (j .order-is) (first-is (j .taken) (drop (length (c .history)) order) n (j .count-is ∙ size)) in
       (rw front (j .evidence), rw front (j .greedy))
-  verdict-on c few Tangled n j =
-      (j .not-serializable, rw (j .cycle-is, first-is (j .places) (drop (length (j .places)) cycle) n (j .count-is)) (j .evidence))
+  verdict-on c few Tangled n j e =
+      let front : first-bytes n cycle′ ≡ j .places = rw (j .cycle-is) (first-is (j .places) (drop (length (j .places)) cycle) n (j .count-is)) in
+      let places : take n cycle′ ≡ j .places = rw (j .cycle-is) (take-at (j .places) (drop (length (j .places)) cycle) n (sym (j .count-is))) in
+      let values : first-bytes n names′ ≡ map names-value (cycle-names (conflict-of c) (unit-of c) (c .history) (j .places)) =
+      rw (le-leb n (length names′) (omega (arith, j .count-is, j .evidence .most))) (rw places at e) in
+      let named : map names-by (first-bytes n names′) ≡ cycle-names (conflict-of c) (unit-of c) (c .history) (j .places) =
+      ap (map names-by) values ∙ values-back (cycle-names (conflict-of c) (unit-of c) (c .history) (j .places)) in
+      (j .not-serializable, rw front (j .evidence), rw front named)
 
   -- a valid book, its classes, and the judgement on it
   pub findings-on : (b : Book) → Valid b → (w : Classes) → ClassesOn (contents-of b) (w .serial) (w .atomic) (w .relserial) (w .conflict)
       → (r : Judgement) → JudgedAs (conflict-of (contents-of b)) (unit-of (contents-of b)) (contents-of b .history) order order′ cycle cycle′ (r .verdict) (r .count)
-      → FindingsOn (contents-of b) (findings (b .done) w (is-passed (r .verdict)) (front-of (r .verdict) (r .count) order′ cycle′))
-  findings-on b v w f r j = record {
+      → EvidenceNamed (conflict-of (contents-of b)) (unit-of (contents-of b)) (contents-of b .history) cycle′ names names′ (r .verdict) (r .count)
+      → FindingsOn (contents-of b) (findings (b .done) w (is-passed (r .verdict)) (front-of (r .verdict) (r .count) order′ cycle′) (front-of (r .verdict) (r .count) order′ names′))
+  findings-on b v w f r j e = record {
     done-is = sym (history-long b v);
     classes-are = f;
-    verdict-is = verdict-on (contents-of b) (omega (arith, history-long b v, done-within b v)) (r .verdict) (r .count) j;
+    verdict-is = verdict-on (contents-of b) (omega (arith, history-long b v, done-within b v)) (r .verdict) (r .count) j e;
   }
 
 pub few-done : (b : Book) → Valid b → b .done < number-limit

@@ -1,4 +1,4 @@
--- The letters of the report's words, the blank, the line end and the digits, in ASCII.
+-- The letters of the report's words and of the arcs' names, the blank, the line end and the digits, in ASCII.
 use Prim.Native.Nat.{ℕ, _+_}
 
 abbrev pub a : ℕ
@@ -54,6 +54,18 @@ v = 0x76
 
 abbrev pub y : ℕ
 y = 0x79
+
+abbrev pub I : ℕ
+I = 0x49
+
+abbrev pub D : ℕ
+D = 0x44
+
+abbrev pub F : ℕ
+F = 0x46
+
+abbrev pub B : ℕ
+B = 0x42
 
 abbrev pub blank : ℕ
 blank = 0x20

@@ -1,4 +1,4 @@
--- What `report` promises: the text of what the definitions say of a book's bytes (document 01, "Class tests, evidence, writer, program").
+-- What `report` promises: the text of what the definitions say of a book's bytes (document 01, "Class tests, evidence, writer, program"; document 02, change 5).
 use Prim.Native.Nat.{ℕ}
 use mathlib.Core.Path.{_≡_}
 use mathlib.Core.Bool.{Bool}
@@ -8,6 +8,7 @@ use Rattle.theory.specs.Relative.{RelativelySerial, ConflictSerializable, Relat
 use Rattle.theory.specs.Graph.{Cycle, Greedy}
 use Rattle.theory.specs.Rows.{Is}
 use Rattle.buffer.specs.Put.{Put}
+use Rattle.names.specs.Names.{cycle-names}
 use Rattle.book.specs.Format.{Contents, Outcome, refused, accepted}
 use Rattle.book.specs.Numbers.{number}
 use Rattle.book.specs.Meaning.{conflict-of, unit-of, SerialHistory, RelativelyAtomicHistory}
@@ -17,11 +18,12 @@ use Rattle.report.specs.Text.{Verdict, passed, tangled, Findings, Report
 
 -- by the conflict of steps on which it rests: the book's own below
 module _ (conflict-by : ℕ → ℕ → ℕ → ℕ → Bool) (c : Contents) where
-  -- passed, with the order which at each turn takes the smallest place not yet taken whose arc sources are all taken; or tangled, with a cycle.
-  -- There is one such order (theory's `greedy-unique`)
+  -- passed, with the order which at each turn takes the smallest place not yet taken whose arc sources are all taken; or tangled, with a cycle and the
+  -- names of its arcs, as the history and the cycle have them. There is one such order (theory's `greedy-unique`)
   abbrev pub VerdictBy : Verdict → Type 0
   VerdictBy (passed order) = RelativelySerialOrder conflict-by (unit-of c) (c .history) order × Greedy conflict-by (unit-of c) (c .history) order
-  VerdictBy (tangled cycle) = (¬ RelativelySerializable conflict-by (unit-of c) (c .history)) × Cycle conflict-by (unit-of c) (c .history) cycle
+  VerdictBy (tangled cycle names) =
+      (¬ RelativelySerializable conflict-by (unit-of c) (c .history)) × Cycle conflict-by (unit-of c) (c .history) cycle × (names ≡ cycle-names conflict-by (unit-of c) (c .history) cycle)
 
   -- the four classes of an accepted book; `Is b P` says that P holds exactly where b is true
   pub record ClassesBy (serial atomic relserial conflict : Bool) : Type 0 where

@@ -1,17 +1,18 @@
--- The text that the program writes for a book, as bytes (document 01, "Class tests, evidence, writer, program").
+-- The text that the program writes for a book, as bytes (document 01, "Class tests, evidence, writer, program"; document 02, change 5).
 use Prim.Native.Nat.{ℕ, zero, suc, _/_, _%_}
 use mathlib.Core.Bool.{Bool, true, false, cond}
 use mathlib.Core.List.{List, [], _∷_, _++_}
 use lib.Dec.{ltb}
 use Rattle.buffer.specs.Each.{each}
-use Rattle.report.specs.Letters.{a, c, d, e, f, g, i, l, m, n, o, p, r, s, t, u, v, y, blank, line-end, digit}
+use Rattle.names.specs.declared.ArcNames.{ArcNames}
+use Rattle.report.specs.Letters.{a, c, d, e, f, g, i, l, m, n, o, p, r, s, t, u, v, y, I, D, F, B, blank, line-end, digit}
 
 -- ---- what is said of a book
 
--- passed, with the order's run numbers; or tangled, with the cycle's places
+-- passed, with the order's run numbers; or tangled, with the cycle's places and the names of its arcs
 pub data Verdict : Type 0 where
   passed : List ℕ → Verdict
-  tangled : List ℕ → Verdict
+  tangled : List ℕ → List ArcNames → Verdict
 
 -- the number of done steps, the four classes, the verdict
 pub record Findings : Type 0 where
@@ -46,6 +47,14 @@ answer-word false = n ∷ o ∷ []
 abbrev pub numbers : List ℕ → List ℕ
 numbers = each (λ x. blank ∷ decimal x)
 
+-- the first of I, D, F and B that holds; of an arc one does
+abbrev pub first-letter : ArcNames → ℕ
+first-letter w = cond (w .i) I (cond (w .d) D (cond (w .f) F B))
+
+-- one blank before each letter
+abbrev pub letters : List ArcNames → List ℕ
+letters = each (λ w. blank ∷ first-letter w ∷ [])
+
 -- each line ends with the byte 0A
 abbrev pub line : List ℕ → List ℕ
 line xs = xs ++ line-end ∷ []
@@ -72,11 +81,16 @@ conflict-line b = line ((c ∷ o ∷ n ∷ f ∷ l ∷ i ∷ c ∷ t ∷ blank �
 
 abbrev pub verdict-line : Verdict → List ℕ
 verdict-line (passed xs) = line (v ∷ e ∷ r ∷ d ∷ i ∷ c ∷ t ∷ blank ∷ p ∷ a ∷ s ∷ s ∷ e ∷ d ∷ [])
-verdict-line (tangled xs) = line (v ∷ e ∷ r ∷ d ∷ i ∷ c ∷ t ∷ blank ∷ t ∷ a ∷ n ∷ g ∷ l ∷ e ∷ d ∷ [])
+verdict-line (tangled xs ws) = line (v ∷ e ∷ r ∷ d ∷ i ∷ c ∷ t ∷ blank ∷ t ∷ a ∷ n ∷ g ∷ l ∷ e ∷ d ∷ [])
 
 abbrev pub evidence-line : Verdict → List ℕ
 evidence-line (passed xs) = line ((o ∷ r ∷ d ∷ e ∷ r ∷ []) ++ numbers xs)
-evidence-line (tangled xs) = line ((c ∷ y ∷ c ∷ l ∷ e ∷ []) ++ numbers xs)
+evidence-line (tangled xs ws) = line ((c ∷ y ∷ c ∷ l ∷ e ∷ []) ++ numbers xs)
+
+-- under a cycle, and nowhere else
+abbrev pub arcs-line : Verdict → List ℕ
+arcs-line (passed xs) = []
+arcs-line (tangled xs ws) = line ((a ∷ r ∷ c ∷ s ∷ []) ++ letters ws)
 
 -- ---- the text
 
@@ -89,4 +103,5 @@ text-of (accepted-with w) =
     ++ (relserial-line (w .relserial)
     ++ (conflict-line (w .conflict)
     ++ (verdict-line (w .verdict)
-    ++ evidence-line (w .verdict))))))
+    ++ (evidence-line (w .verdict)
+    ++ arcs-line (w .verdict)))))))

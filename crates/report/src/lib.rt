@@ -5,16 +5,18 @@ use buffer::put_byte;
 use buffer::put_bytes;
 use judge::Verdict;
 ghost use mathlib.Core.Path.{_≡_};
-ghost use mathlib.Core.List.{_++_};
+ghost use mathlib.Core.Bool.{false};
+ghost use mathlib.Core.List.{[], _∷_, _++_, map};
 ghost use Prim.Native.Nat.{_+_, _*_, _<_, _≤_};
 ghost use lib.ListN.{length};
 ghost use Rattle.buffer.specs.Put.{Put};
 ghost use Rattle.book.specs.Format.{accepted, read, step-limit};
 ghost use Rattle.book.specs.Book.{Valid, contents-of};
-ghost use Rattle.report.specs.Text.{refused-at, accepted-with, text-of, decimal, answer-word, numbers, line, done-line};
+ghost use Rattle.report.specs.Letters.{blank};
+ghost use Rattle.report.specs.Text.{tangled, refused-at, accepted-with, text-of, decimal, answer-word, numbers, first-letter, line, done-line, arcs-line};
 ghost use Rattle.report.specs.Reporting.{ClassesOn, Reports};
-ghost use Rattle.report.specs.inner.Widths.{number-digits, number-limit, place-digits, number-width, answer-width, done-width, classes-width, verdict-width, evidence-width, refused-width, text-limit};
-ghost use Rattle.report.specs.inner.Lines.{PutWithin, class-lines, is-passed, verdict-by, verdict-lines, findings};
+ghost use Rattle.report.specs.inner.Widths.{number-digits, number-limit, place-digits, number-width, answer-width, done-width, classes-width, verdict-width, evidence-width, letter-width, arcs-width, refused-width, text-limit};
+ghost use Rattle.report.specs.inner.Lines.{PutWithin, class-lines, is-passed, names-by, value-letters, verdict-by, verdict-lines, findings};
 
 // How many bytes each line takes at most: its head, its word or numbers, and the line end.
 const DONE_WIDTH: usize = 5 + 3 + 1;
@@ -31,6 +33,8 @@ const VERDICT_WIDTH: usize = 15 + 1;
 
 const EVIDENCE_WIDTH: usize = 5 + 4 * Book::STEPS + 1;
 
+const ARCS_WIDTH: usize = 4 + 2 * Book::STEPS + 1;
+
 // The length of the buffer: every text fits.
 pub const TEXT: usize = DONE_WIDTH
     + SERIAL_WIDTH
@@ -38,7 +42,8 @@ pub const TEXT: usize = DONE_WIDTH
     + RELSERIAL_WIDTH
     + CONFLICT_WIDTH
     + VERDICT_WIDTH
-    + EVIDENCE_WIDTH;
+    + EVIDENCE_WIDTH
+    + ARCS_WIDTH;
 
 // The answers of the four class tests.
 struct Classes {
@@ -154,27 +159,96 @@ fn put_list(head: &[u8], list: &[u8], out: &mut [u8]) -> usize
     at + k
 }
 
-// The lines of the verdict and of its order or cycle.
-fn put_verdict(passed: bool, list: &[u8], out: &mut [u8]) -> usize
-    requires { ⌜ (length (now list) ≤ step-limit) × (verdict-width + evidence-width ≤ length (now out)) ⌝ }
-    ensures { λ r. ⌜ PutWithin (verdict-width + evidence-width) (verdict-lines (verdict-by passed (now (list .entry)))) (now (out .entry)) (now (out .exit)) r ⌝ }
+// The first letter of I, D, F and B that holds, of the names with this value.
+fn first_letter(value: u8) -> u8
+    ensures { λ r. ⌜ r ≡ first-letter (names-by value) ⌝ }
+{
+    if value % 2 == 1 {
+        return b'I';
+    }
+    if value / 2 % 2 == 1 {
+        return b'D';
+    }
+    if value / 4 % 2 == 1 {
+        return b'F';
+    }
+    b'B'
+}
+
+// A blank and that letter.
+fn put_letter(value: u8, out: &mut [u8]) -> usize
+    requires { ⌜ letter-width ≤ length (now out) ⌝ }
+    ensures { λ r. ⌜ Put (blank ∷ first-letter (names-by value) ∷ []) (now (out .entry)) (now (out .exit)) r ⌝ }
+{
+    let bytes = [b' ', first_letter(value)];
+    put_bytes(&bytes, out)
+}
+
+// A blank and a letter for each of the values.
+fn put_letters(values: &[u8], out: &mut [u8]) -> usize
+    requires { ⌜ letter-width * length (now values) ≤ length (now out) ⌝ }
+    ensures { λ r. ⌜ PutWithin (letter-width * length (now (values .entry))) (value-letters (now (values .entry))) (now (out .entry)) (now (out .exit)) r ⌝ }
+{
+    let mut at: usize = 0;
+    let mut i: usize = 0;
+    while i < values.len() {
+        let n = put_letter(values[i], &mut out[at..]);
+        at += n;
+        i += 1;
+    }
+    at
+}
+
+// The line of the arcs.
+fn put_arcs(values: &[u8], out: &mut [u8]) -> usize
+    requires { ⌜ 4 + letter-width * length (now values) + 1 ≤ length (now out) ⌝ }
+    ensures { λ r. ⌜ PutWithin (4 + letter-width * length (now (values .entry)) + 1) (arcs-line (tangled [] (map names-by (now (values .entry))))) (now (out .entry)) (now (out .exit)) r ⌝ }
+{
+    let n = put_bytes(b"arcs", &mut out[..]);
+    let m = put_letters(values, &mut out[n..]);
+    let at = n + m;
+    let k = put_byte(b'\n', &mut out[at..]);
+    at + k
+}
+
+// The lines of a tangled history: the verdict, the cycle and its arcs.
+fn put_tangled(list: &[u8], values: &[u8], out: &mut [u8]) -> usize
+    requires { ⌜ (length (now list) ≤ step-limit) × (length (now values) ≤ step-limit) × (verdict-width + evidence-width + arcs-width ≤ length (now out)) ⌝ }
+    ensures { λ r. ⌜ PutWithin (verdict-width + evidence-width + arcs-width) (verdict-lines (verdict-by false (now (list .entry)) (now (values .entry)))) (now (out .entry)) (now (out .exit)) r ⌝ }
+{
+    let n = put_list(b"verdict tangled\ncycle", list, &mut out[..]);
+    let m = put_arcs(values, &mut out[n..]);
+    n + m
+}
+
+// The lines of the verdict, of its order or its cycle, and of the cycle's arcs.
+fn put_verdict(passed: bool, list: &[u8], values: &[u8], out: &mut [u8]) -> usize
+    requires { ⌜ (length (now list) ≤ step-limit) × (length (now values) ≤ step-limit) × (verdict-width + evidence-width + arcs-width ≤ length (now out)) ⌝ }
+    ensures { λ r. ⌜ PutWithin (verdict-width + evidence-width + arcs-width) (verdict-lines (verdict-by passed (now (list .entry)) (now (values .entry)))) (now (out .entry)) (now (out .exit)) r ⌝ }
 {
     if passed {
         put_list(b"verdict passed\norder", list, out)
     } else {
-        put_list(b"verdict tangled\ncycle", list, out)
+        put_tangled(list, values, out)
     }
 }
 
 // The text for an accepted book.
-fn put_findings(done: usize, classes: Classes, passed: bool, list: &[u8], out: &mut [u8]) -> usize
-    requires { ⌜ (done < number-limit) × (length (now list) ≤ step-limit) × (text-limit ≤ length (now out)) ⌝ }
-    ensures { λ r. ⌜ Put (text-of (accepted-with (findings done classes passed (now (list .entry))))) (now (out .entry)) (now (out .exit)) r ⌝ }
+fn put_findings(
+    done: usize,
+    classes: Classes,
+    passed: bool,
+    list: &[u8],
+    values: &[u8],
+    out: &mut [u8],
+) -> usize
+    requires { ⌜ (done < number-limit) × (length (now list) ≤ step-limit) × (length (now values) ≤ step-limit) × (text-limit ≤ length (now out)) ⌝ }
+    ensures { λ r. ⌜ Put (text-of (accepted-with (findings done classes passed (now (list .entry)) (now (values .entry))))) (now (out .entry)) (now (out .exit)) r ⌝ }
 {
     let done_end = put_done(done, &mut out[..]);
     let n = put_classes(classes, &mut out[done_end..]);
     let classes_end = done_end + n;
-    let m = put_verdict(passed, list, &mut out[classes_end..]);
+    let m = put_verdict(passed, list, values, &mut out[classes_end..]);
     classes_end + m
 }
 
@@ -225,10 +299,12 @@ fn put_accepted(b: Book, out: &mut [u8]) -> usize
     let classes = classes_of(b);
     let mut order = [0u8; Book::STEPS];
     let mut cycle = [0u8; Book::STEPS];
-    let judgement = judge::judge_book(b, &mut order, &mut cycle);
+    let mut names = [0u8; Book::STEPS];
+    let judgement = judge::judge_book(b, &mut order, &mut cycle, &mut names);
     let verdict = judgement.verdict;
     let list = judge::front(&order, &cycle, verdict, judgement.count);
-    put_findings(b.done, classes, is_passed(verdict), list, out)
+    let values = judge::front(&order, &names, verdict, judgement.count);
+    put_findings(b.done, classes, is_passed(verdict), list, values, out)
 }
 
 // Puts the text of the report on the bytes s into the buffer, and answers its length.

@@ -40,7 +40,7 @@ returns c = record {
   conflict = demand-1 .deck-test _ _ _ (c .before .before .before .before .deck-conflict .ensures);
   check-order = demand-1 .deck-test _ _ _ (c .before .before .before .deck-check-order .ensures);
   check-cycle = demand-1 .deck-test _ _ _ (c .before .before .deck-check-cycle .ensures);
-  arc = demand-1 .deck-test _ _ _ (c .before .deck-arc .ensures);
+  arc = demand-1 .deck-name _ _ _ (c .before .deck-arc .ensures);
   opened = demand-1 .deck-open _ _ (c .deck-open .ensures);
 }
 

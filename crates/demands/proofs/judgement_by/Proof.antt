@@ -17,6 +17,9 @@ slice-aggregate-judge-book c = search needs
 slice-aggregate-judge-book-2 : tie.Need-slice-aggregate-judge-book-2
 slice-aggregate-judge-book-2 c = search needs
 
+slice-aggregate-judge-book-3 : tie.Need-slice-aggregate-judge-book-3
+slice-aggregate-judge-book-3 c = search needs
+
 judge-book-requires : tie.Need-judge-book-requires
 judge-book-requires c κs = search needs
 
@@ -25,8 +28,8 @@ returns c = search refused-answered
 
 returns-2 : tie.Need-returns-2
 returns-2 c =
-    let judged = c .before .before .judge-book in
-    accepted-answered _ _ _ _ (judged .last .1 .0) _ (judged .last .1 .1 .0) (omega arith) (omega arith) (c .before .before .before .before .before .enum-told .given .1) (judged .ensures)
+    let judged = c .before .before .before .judge-book in
+    accepted-answered _ _ _ _ (judged .last .1 .0) _ (judged .last .1 .1 .0) (omega arith) (omega arith) (c .before .before .before .before .before .before .before .enum-told .given .1) (judged .ensures .0)
 
 pub judgement-by-spec : {M : Type 1} → statement M
 judgement-by-spec =
@@ -36,6 +39,7 @@ judgement-by-spec =
     enum-told
     slice-aggregate-judge-book
     slice-aggregate-judge-book-2
+    slice-aggregate-judge-book-3
     judge-book-requires
     returns
     returns-2)

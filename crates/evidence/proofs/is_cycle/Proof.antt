@@ -1,18 +1,19 @@
--- The table of arcs is that of the book's graph.
-use borrow.Author.Needs.{needs}
-use Rattle.book.proofs.Books.{done-within}
+-- The tables are those of the book's contents, so the cycle that `cycle_by` tells is one of its graph.
+use Rattle.graph.proofs.DependenceRows.{blank-zeros}
+use Rattle.graph.proofs.BookTables.{book-history, book-some-tables}
 use Rattle.evidence.proofs.BookLaws.{book-cycle}
+use borrow.Author.Needs.{needs}
 use Rattle.evidence.proofs.is_cycle.Statement.{statement}
 use Rattle.evidence.proofs.is_cycle.Tie as tie
 
-arcs-requires : tie.Need-arcs-requires
-arcs-requires c κs = search needs
+tables-requires : tie.Need-tables-requires
+tables-requires c κs = (search needs, search blank-zeros, search blank-zeros)
 
 cycle-by-requires : tie.Need-cycle-by-requires
-cycle-by-requires c κs = search done-within
+cycle-by-requires c κs = (search book-history, search needs, search book-some-tables)
 
 returns : tie.Need-returns
 returns c = search book-cycle
 
 pub is-cycle-spec : {M : Type 1} → statement M
-is-cycle-spec = tie.close (tie.spec arcs-requires cycle-by-requires returns)
+is-cycle-spec = tie.close (tie.spec tables-requires cycle-by-requires returns)

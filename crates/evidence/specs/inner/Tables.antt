@@ -1,10 +1,10 @@
--- The checks over tables: the next step of a run, an order, a cycle, an arc.
+-- The checks over tables: the next step of a run, an order, a cycle.
 use Prim.Native.Nat.{ℕ, _<_}
 use mathlib.Core.Path.{_≡_}
 use mathlib.Core.Logic.{_≢_}
-use mathlib.Core.Bool.{Bool}
+use mathlib.Core.Bool.{Bool, _||_}
 use mathlib.Core.List.{List}
-use lib.ListN.{length, getD, take}
+use lib.ListN.{getD, take}
 use Rattle.theory.specs.Relative.{Depends, Equivalent}
 use Rattle.theory.specs.Graph.{Arc, Cycle}
 use Rattle.bits.specs.Table.{bit-at}
@@ -12,6 +12,8 @@ use Rattle.bits.specs.declared.Found.{Found}
 use Rattle.bits.specs.declared.Found.the-variants.{At, Nothing}
 use Rattle.theory.specs.Answers.{Answers}
 use Rattle.graph.specs.Marks.{Marks}
+use Rattle.graph.specs.inner.Arcs.{TablesOf}
+use Rattle.names.specs.declared.ArcNames.{ArcNames}
 
 -- p is the first place of run r that is not taken
 pub record NextAt (history taken : List ℕ) (n r p : ℕ) : Type 0 where
@@ -32,17 +34,18 @@ NextStep history taken n r Nothing = NoNext history taken n r
 pub record EquivalentBy (history : List ℕ) (n : ℕ) (dep l : List ℕ) (answer : Bool) : Type 0 where
   pub answers : (conflict : ℕ → ℕ → ℕ → ℕ → Bool) → Marks (Depends conflict (take n history)) dep → Answers (Equivalent conflict (take n history) l) answer
 
+-- any of the names holds
+abbrev pub any-of : ArcNames → Bool
+any-of w = w .i || (w .d || (w .f || w .b))
+
 -- x may come after `before` on a walk along the arcs that has met the places `seen`
-pub record Follows (n : ℕ) (arc seen : List ℕ) (before x : ℕ) : Type 0 where
-  pub inside : x < n
+pub record Follows (conflict : ℕ → ℕ → ℕ → ℕ → Bool) (unit : ℕ → ℕ → ℕ → ℕ) (h seen : List ℕ) (before x : ℕ) : Type 0 where
   pub fresh : bit-at seen 0 x ≢ 1
-  pub marked : bit-at arc x before ≡ 1
+  pub arc : Arc conflict unit h before x
 
--- the answer for every history of n places, conflict and unit whose arcs these are
-pub record CycleBy (n : ℕ) (arc c : List ℕ) (answer : Bool) : Type 0 where
-  pub answers : (conflict : ℕ → ℕ → ℕ → ℕ → Bool) (unit : ℕ → ℕ → ℕ → ℕ) (h : List ℕ) → length h ≡ n → Marks (Arc conflict unit h) arc
-      → Answers (Cycle conflict unit h c) answer
+-- the answer for every conflict and unit whose tables these are
+pub record FollowsBy (h dep firsts lasts seen : List ℕ) (before x : ℕ) (answer : Bool) : Type 0 where
+  pub answers : (a : TablesOf h dep firsts lasts) → Answers (Follows (a .conflict) (a .unit) h seen before x) answer
 
-pub record ArcBy (n : ℕ) (arc : List ℕ) (x y : ℕ) (answer : Bool) : Type 0 where
-  pub answers : (conflict : ℕ → ℕ → ℕ → ℕ → Bool) (unit : ℕ → ℕ → ℕ → ℕ) (h : List ℕ) → length h ≡ n → Marks (Arc conflict unit h) arc
-      → Answers (Arc conflict unit h x y) answer
+pub record CycleBy (h dep firsts lasts c : List ℕ) (answer : Bool) : Type 0 where
+  pub answers : (a : TablesOf h dep firsts lasts) → Answers (Cycle (a .conflict) (a .unit) h c) answer

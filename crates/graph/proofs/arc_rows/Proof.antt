@@ -16,14 +16,8 @@ abbrev μ-loop : tie.MeasureT-loop
 loop-holds : tie.Need-loop-holds Inv-loop μ-loop
 loop-holds c = (search needs, search runs-none)
 
-mul-row-of : tie.Need-mul-row-of Inv-loop μ-loop
-mul-row-of c = search needs
-
-add-row-of : tie.Need-add-row-of Inv-loop μ-loop
-add-row-of c = search needs
-
-row-of-requires : tie.Need-row-of-requires Inv-loop μ-loop
-row-of-requires c κs = search needs
+run-places-requires : tie.Need-run-places-requires Inv-loop μ-loop
+run-places-requires c κs = search needs
 
 arcs-from-requires : tie.Need-arcs-from-requires Inv-loop μ-loop
 arcs-from-requires c κs = search mask-input
@@ -47,9 +41,7 @@ arc-rows-spec =
     Inv-loop
     μ-loop
     loop-holds
-    mul-row-of
-    add-row-of
-    row-of-requires
+    run-places-requires
     arcs-from-requires
     add-r
     loop-less

@@ -52,14 +52,18 @@ pub record RunRows (h : List ℕ) (n : ℕ) (catalogue : List ℕ) : Type 0 wher
   pub sound : (p r : ℕ) → p < row-bits → r < run-limit → bit-at catalogue (run-part * base + r) p ≡ 1 → InRun h n p r
   pub complete : (p r : ℕ) → p < row-bits → r < run-limit → InRun h n p r → bit-at catalogue (run-part * base + r) p ≡ 1
 
--- the tables are those of h, with some conflict and units
-pub record TablesOf (h dep firsts lasts : List ℕ) : Type 0 where
-  pub conflict : ℕ → ℕ → ℕ → ℕ → Bool
-  pub unit : ℕ → ℕ → ℕ → ℕ
+-- the tables are those of h, with this conflict and these units
+pub record TablesBy (conflict : ℕ → ℕ → ℕ → ℕ → Bool) (unit : ℕ → ℕ → ℕ → ℕ) (h dep firsts lasts : List ℕ) : Type 0 where
   pub rises : (r o i j : ℕ) → i ≤ j → unit r o i ≤ unit r o j
   pub dep-marks : Marks (Depends conflict h) dep
   pub firsts-are : Firsts unit h firsts
   pub lasts-are : Lasts unit h lasts
+
+-- with some conflict and units
+pub record TablesOf (h dep firsts lasts : List ℕ) : Type 0 where
+  pub conflict : ℕ → ℕ → ℕ → ℕ → Bool
+  pub unit : ℕ → ℕ → ℕ → ℕ
+  pub by : TablesBy conflict unit h dep firsts lasts
 
 -- u is t with the bits that H tells of i and j, for any conflict and units whose tables these are
 pub record GainedBy (H : (ℕ → ℕ → ℕ → ℕ → Bool) → (ℕ → ℕ → ℕ → ℕ) → List ℕ → ℕ → ℕ → ℕ → ℕ → Type 0)

@@ -34,6 +34,9 @@ refused-requires-3 c κs = search needs
 enum-told : tie.Need-enum-told
 enum-told c = search needs
 
+slice-aggregate-judge-book : tie.Need-slice-aggregate-judge-book
+slice-aggregate-judge-book c = search needs
+
 judge-book-requires : tie.Need-judge-book-requires
 judge-book-requires c κs = search needs
 
@@ -61,6 +64,7 @@ judge-spec =
     enum-known-answer
     refused-requires-3
     enum-told
+    slice-aggregate-judge-book
     judge-book-requires
     returns-3
     same-length

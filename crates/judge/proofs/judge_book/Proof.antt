@@ -1,15 +1,19 @@
--- The table marks the arcs of the book's own conflict and unit, and `judge_arcs` judges by these.
-use Rattle.graph.proofs.BookTables.{book-history}
-use Rattle.judge.proofs.BookHistory.{book-graph, book-judged}
+-- The tables are those of the book's own conflict and unit, and `judge_arcs` judges by these.
+use Rattle.graph.proofs.DependenceRows.{blank-zeros}
+use Rattle.graph.proofs.BookTables.{book-history, book-some-tables}
+use Rattle.judge.proofs.BookHistory.{book-graph, book-judged, book-named}
 use borrow.Author.Needs.{needs}
 use Rattle.judge.proofs.judge_book.Statement.{statement}
 use Rattle.judge.proofs.judge_book.Tie as tie
 
 arcs-requires : tie.Need-arcs-requires
-arcs-requires c κs = search needs
+arcs-requires c κs = (search needs, search blank-zeros, search blank-zeros)
 
 judge-arcs-requires : tie.Need-judge-arcs-requires
 judge-arcs-requires c κs = (search book-history, search book-graph, search needs, search needs)
+
+name-evidence-requires : tie.Need-name-evidence-requires
+name-evidence-requires c κs = (search book-history, search needs, search book-some-tables, search needs, search needs)
 
 same-length : tie.Need-same-length
 same-length c = search needs
@@ -17,9 +21,20 @@ same-length c = search needs
 same-length-2 : tie.Need-same-length-2
 same-length-2 c = search needs
 
+same-length-3 : tie.Need-same-length-3
+same-length-3 c = search needs
+
 returns : tie.Need-returns
-returns c = search book-judged
+returns c = (search book-judged, search book-named)
 
 pub judge-book-spec : {M : Type 1} → statement M
 judge-book-spec =
-    tie.close (tie.spec arcs-requires judge-arcs-requires same-length same-length-2 returns)
+    tie.close
+    (tie.spec
+    arcs-requires
+    judge-arcs-requires
+    name-evidence-requires
+    same-length
+    same-length-2
+    same-length-3
+    returns)

@@ -1,4 +1,5 @@
 -- The table marks the arcs of the book's own conflict and unit, and a history passes exactly where the turns take every place.
+use Rattle.graph.proofs.DependenceRows.{blank-zeros}
 use Rattle.graph.proofs.BookTables.{book-history}
 use Rattle.judge.proofs.BookHistory.{book-passes}
 use borrow.Author.Needs.{needs}
@@ -6,7 +7,7 @@ use Rattle.judge.proofs.passes.Statement.{statement}
 use Rattle.judge.proofs.passes.Tie as tie
 
 arcs-requires : tie.Need-arcs-requires
-arcs-requires c κs = search needs
+arcs-requires c κs = (search needs, search blank-zeros, search blank-zeros)
 
 greedy-requires : tie.Need-greedy-requires
 greedy-requires c κs = search book-history

@@ -6,6 +6,7 @@ use Rattle.theory.specs.Relative.{Lawful}
 use Rattle.theory.specs.Graph.{Arc}
 use Rattle.graph.specs.Marks.{Marks}
 use Rattle.judge.specs.Judged.{JudgedAs}
+use Rattle.judge.specs.inner.Names.{CycleCounted}
 use Rattle.judge.specs.declared.Judgement.{Judgement}
 
 -- the table marks the arcs of the graph of h, by some conflict and unit
@@ -14,7 +15,8 @@ pub record ArcTable (h arc : List ℕ) : Type 0 where
   pub unit : ℕ → ℕ → ℕ → ℕ
   pub marks : Marks (Arc conflict unit h) arc
 
--- the judgement, of every conflict and unit whose arcs the table marks
+-- the judgement, of every conflict and unit whose arcs the table marks, and where its cycle stands
 pub record JudgedArcs (h arc order order′ cycle cycle′ : List ℕ) (r : Judgement) : Type 0 where
   pub judged : (conflict : ℕ → ℕ → ℕ → ℕ → Bool) (unit : ℕ → ℕ → ℕ → ℕ) → Lawful conflict → Marks (Arc conflict unit h) arc
       → JudgedAs conflict unit h order order′ cycle cycle′ (r .verdict) (r .count)
+  pub counted : CycleCounted cycle′ (r .verdict) (r .count)

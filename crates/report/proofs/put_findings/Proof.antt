@@ -46,8 +46,8 @@ returns c =
     let verdict = c .before .before in
     let classes = verdict .before .before .before .before in
     let done = classes .before .before .before .before in
-    let a = done .before .before .before .before .args in
-    put-is (behind (behind (done .put-done .ensures .put) (classes .put-classes .ensures .put)) (verdict .put-verdict .ensures .put)) (findings-text (a .done) (a .classes) (a .passed) (a .list .now))
+    let a = done .before .before .before .before .before .args in
+    put-is (behind (behind (done .put-done .ensures .put) (classes .put-classes .ensures .put)) (verdict .put-verdict .ensures .put)) (findings-text (a .done) (a .classes) (a .passed) (a .list .now) (a .values .now))
 
 pub put-findings-spec : {M : Type 1} → statement M
 put-findings-spec =

@@ -46,9 +46,16 @@ verdict-width = 15 + 1
 abbrev pub evidence-width : ℕ
 evidence-width = 5 + number-width * step-limit + 1
 
+-- a letter, and the blank before it
+abbrev pub letter-width : ℕ
+letter-width = 1 + 1
+
+abbrev pub arcs-width : ℕ
+arcs-width = 4 + letter-width * step-limit + 1
+
 abbrev pub refused-width : ℕ
 refused-width = 8 + number-digits + 4 + place-digits + 1
 
 -- all lines of an accepted book; the one line of a refused book is shorter
 abbrev pub text-limit : ℕ
-text-limit = done-width + classes-width + verdict-width + evidence-width
+text-limit = done-width + classes-width + verdict-width + evidence-width + arcs-width

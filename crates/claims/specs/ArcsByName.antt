@@ -1,0 +1,78 @@
+-- Arcs by name (document 02, change 5), as statements about every answer that meets the calls' contracts. That the cycle check and the judge give the
+-- answers that they gave needs no statement: their contracts are the same.
+use Prim.Native.Nat.{ℕ, suc, _-_, _≤_, _<_}
+use mathlib.Core.Path.{_≡_}
+use mathlib.Core.Logic.{_⊎_, _≢_, _↔_}
+use mathlib.Core.Bool.{Bool}
+use mathlib.Core.List.{List, map}
+use lib.ListN.{length, getD}
+use Rattle.theory.specs.Graph.{ArcI, ArcD, ArcF, ArcB, Arc}
+use Rattle.theory.specs.Rows.{Is}
+use Rattle.book.specs.Format.{Contents, accepted, read}
+use Rattle.book.specs.Numbers.{value-of}
+use Rattle.book.specs.Meaning.{conflict-of, unit-of}
+use Rattle.names.specs.Names.{names-of, names-value}
+use Rattle.names.specs.declared.ArcNames.{ArcNames}
+use Rattle.classes.specs.Tested.{tested-numbers, TestedAs}
+use Rattle.classes.specs.declared.Tested.{Tested}
+use Rattle.classes.specs.declared.Tested.the-variants.{Yes}
+use Rattle.evidence.specs.Named.{named-numbers, NamedAs}
+use Rattle.evidence.specs.declared.Named.{Named}
+use Rattle.evidence.specs.declared.Named.the-variants.{Arcs}
+use Rattle.report.specs.Text.{Findings, accepted-with, tangled, first-letter}
+use Rattle.report.specs.Reporting.{Reports}
+use Rattle.capi.specs.Calls.{NameCall}
+use Rattle.capi.specs.declared.Answered.{Answered}
+use Rattle.claims.specs.Demands.{answered-numbers}
+
+-- ---- the arc test
+
+-- what it is asked of a book's contents
+abbrev pub arcs-from : ℕ → ℕ → Contents → ArcNames
+arcs-from x y c = names-of (conflict-of c) (unit-of c) (c .history) x y
+
+-- what it was asked when it said only yes or no
+abbrev pub ArcFrom : ℕ → ℕ → Contents → Type 0
+ArcFrom x y c = Arc (conflict-of c) (unit-of c) (c .history) x y
+
+-- w has all of I, D, F and B that hold from x to y, and no other
+pub record AllThatHold (c : Contents) (x y : ℕ) (w : ArcNames) : Type 0 where
+  pub i-holds : Is (w .i) (ArcI (c .history) x y)
+  pub d-holds : Is (w .d) (ArcD (conflict-of c) (c .history) x y)
+  pub f-holds : Is (w .f) (ArcF (conflict-of c) (unit-of c) (c .history) x y)
+  pub b-holds : Is (w .b) (ArcB (conflict-of c) (unit-of c) (c .history) x y)
+
+-- ---- the program's line
+
+-- the letter, in ASCII, is the first of I, D, F and B that holds from x to y
+pub data FirstHolds (c : Contents) (x y : ℕ) : ℕ → Type 0 where
+  letter-I : ArcI (c .history) x y → FirstHolds c x y 0x49
+  letter-D : ¬ ArcI (c .history) x y → ArcD (conflict-of c) (c .history) x y → FirstHolds c x y 0x44
+  letter-F : ¬ ArcI (c .history) x y → ¬ ArcD (conflict-of c) (c .history) x y → ArcF (conflict-of c) (unit-of c) (c .history) x y → FirstHolds c x y 0x46
+  letter-B : ¬ ArcI (c .history) x y → ¬ ArcD (conflict-of c) (c .history) x y → ¬ ArcF (conflict-of c) (unit-of c) (c .history) x y
+      → ArcB (conflict-of c) (unit-of c) (c .history) x y → FirstHolds c x y 0x42
+
+-- the letters of the arcs' line are, for each arc of the cycle in turn, the one back to the first place last, the first that holds
+pub record Lettered (c : Contents) (cycle letters : List ℕ) : Type 0 where
+  pub many : length letters ≡ length cycle
+  pub next : (i : ℕ) → suc i < length cycle → FirstHolds c (getD cycle i 0) (getD cycle (suc i) 0) (getD letters i 0)
+  pub back : FirstHolds c (getD cycle (length cycle - 1) 0) (getD cycle 0 0) (getD letters (length cycle - 1) 0)
+
+-- ---- the statement
+
+pub record ArcsByName : Type 0 where
+  -- The arc test now answers with all of I, D, F and B that hold there,
+  pub all-named : (s : List ℕ) (c : Contents) → read s ≡ accepted c → (x y : ℕ) (r : Named) → NamedAs (arcs-from x y) s r → (w : ArcNames) × (r ≡ Arcs w) × AllThatHold c x y w
+  -- for C by the sum of I 1, D 2, F 4 and B 8,
+  pub deck-named : (s : List ℕ) (c : Contents) → read s ≡ accepted c → (x y : ℕ) (r : Answered) → NameCall (arcs-from x y) s r
+      → (w : ArcNames) × (answered-numbers r ≡ value-of (names-value w)) × AllThatHold c x y w
+  -- where it said only yes or no: it said yes exactly where it now has a name, and was refused with the same number and place;
+  pub yes-before : (s : List ℕ) (x y : ℕ) (r : Named) (t : Tested) → NamedAs (arcs-from x y) s r → TestedAs (ArcFrom x y) s t → (t ≡ Yes) ↔ (named-numbers r .value ≢ 0)
+  pub refused-before : (s : List ℕ) (x y : ℕ) (r : Named) (t : Tested) → NamedAs (arcs-from x y) s r → TestedAs (ArcFrom x y) s t
+      → (named-numbers r .number ≡ tested-numbers t .number) × (named-numbers r .place ≡ tested-numbers t .place)
+  -- a place beyond the done steps has none.
+  pub beyond : (s : List ℕ) (c : Contents) → read s ≡ accepted c → (x y : ℕ) (r : Named) → NamedAs (arcs-from x y) s r
+      → (length (c .history) ≤ x) ⊎ (length (c .history) ≤ y) → named-numbers r .value ≡ 0
+  -- Under the cycle the program adds a line "arcs" with, for each arc in turn, the one back to the first place last, the first of I, D, F, B that holds.
+  pub lettered : (s : List ℕ) (c : Contents) → read s ≡ accepted c → (text text′ : List ℕ) (n : ℕ) (w : Reports (read s) text text′ n)
+      → (f : Findings) (cycle : List ℕ) (names : List ArcNames) → w .report ≡ accepted-with f → f .verdict ≡ tangled cycle names → Lettered c cycle (map first-letter names)
