@@ -538,29 +538,6 @@ pub fn run_places(catalogue: &Table, r: usize) -> Row
     bits::row_of(catalogue, RUN_PART * BASE + r)
 }
 
-// The arc rows, run after run. The catalogue has the places of each run.
-fn arc_rows(
-    history: &[u8; Book::STEPS],
-    n: usize,
-    declared: usize,
-    catalogue: &Table,
-    dep: &Table,
-    firsts: &Units,
-    lasts: &Units,
-    arc: &mut Table,
-)
-    requires { ⌜ HistoryOf (now history) n × Declared (now history) n declared × RunRows (take n (now history)) n (now catalogue) × TablesOf (take n (now history)) (now dep) (now firsts) (now lasts) ⌝ }
-    ensures { λ _. ⌜ ArcRows (take n (now (history .entry))) (now (dep .entry)) (now (firsts .entry)) (now (lasts .entry)) (now (arc .exit)) ⌝ }
-{
-    *arc = [0; bits::TABLE_WORDS];
-    let mut r = 0;
-    while r < declared {
-        let mask = run_places(catalogue, r);
-        arcs_from(history, n, dep, firsts, lasts, &mask, r, arc);
-        r += 1;
-    }
-}
-
 // The tables of the book's history: the catalogue, the dependence table, and the first and the last place of each place's unit as seen by each run.
 pub fn tables(
     b: Book,
@@ -580,29 +557,27 @@ pub fn tables(
     units(b, firsts, lasts);
 }
 
-// These tables and the arc table: bit x of row y where an arc leads from x to y.
+// The arc table of a history, from its tables: bit x of row y where an arc leads from x to y. The rows are made run after run; the catalogue has the
+// places of each run.
 pub fn arcs(
-    b: Book,
-    catalogue: &mut Table,
-    dep: &mut Table,
-    firsts: &mut Units,
-    lasts: &mut Units,
+    history: &[u8; Book::STEPS],
+    n: usize,
+    declared: usize,
+    catalogue: &Table,
+    dep: &Table,
+    firsts: &Units,
+    lasts: &Units,
     arc: &mut Table,
 )
-    requires { ⌜ Valid b × Blank (now catalogue) × Blank (now dep) ⌝ }
-    ensures { λ _. ⌜ RunRows (take (b .done) (b .history)) (b .done) (now (catalogue .exit)) × TablesBy (conflict-of (contents-of b)) (unit-of (contents-of b)) (take (b .done) (b .history)) (now (dep .exit)) (now (firsts .exit)) (now (lasts .exit)) ⌝ }
-    ensures { λ _. ⌜ Marks (Arc (conflict-of (contents-of b)) (unit-of (contents-of b)) (contents-of b .history)) (now (arc .exit)) ⌝ }
+    requires { ⌜ HistoryOf (now history) n × Declared (now history) n declared × RunRows (take n (now history)) n (now catalogue) × TablesOf (take n (now history)) (now dep) (now firsts) (now lasts) ⌝ }
+    ensures { λ _. ⌜ ArcRows (take n (now (history .entry))) (now (dep .entry)) (now (firsts .entry)) (now (lasts .entry)) (now (arc .exit)) ⌝ }
 {
-    tables(b, catalogue, dep, firsts, lasts);
-    let history = b.history;
-    arc_rows(
-        &history,
-        b.done,
-        b.declared,
-        catalogue,
-        dep,
-        firsts,
-        lasts,
-        arc,
-    );
+    let mut rows = [0; bits::TABLE_WORDS];
+    let mut r = 0;
+    while r < declared {
+        let mask = run_places(catalogue, r);
+        arcs_from(history, n, dep, firsts, lasts, &mask, r, &mut rows);
+        r += 1;
+    }
+    *arc = rows;
 }

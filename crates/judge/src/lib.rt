@@ -14,7 +14,7 @@ ghost use Rattle.book.specs.Format.{step-limit};
 ghost use Rattle.book.specs.Meaning.{conflict-of, unit-of, RelativelySerializableHistory};
 ghost use Rattle.book.specs.Book.{contents-of, Valid};
 ghost use Rattle.theory.specs.Answers.{Answers};
-ghost use Rattle.graph.specs.inner.Tables.{HistoryOf};
+ghost use Rattle.graph.specs.inner.Tables.{HistoryOf, Declared};
 ghost use Rattle.graph.specs.inner.Arcs.{RunRows, TablesOf};
 ghost use Rattle.judge.specs.Judged.{JudgedAs};
 ghost use Rattle.judge.specs.Judge.{BytesJudged};
@@ -22,7 +22,7 @@ ghost use Rattle.judge.specs.Front.{front-of, front-at};
 ghost use Rattle.judge.specs.declared.Verdict.the-variants.{Refused};
 ghost use Rattle.judge.specs.inner.Turns.{ReadyIn, AllTaken, FirstUntaken, FirstReady, TurnsTaken};
 ghost use Rattle.judge.specs.inner.Cycles.{Stuck, CycleIn};
-ghost use Rattle.judge.specs.inner.Arcs.{ArcTable, JudgedArcs};
+ghost use Rattle.judge.specs.inner.Arcs.{ArcTable, JudgedArcs, JudgedTables};
 ghost use Rattle.judge.specs.inner.Names.{After, ValueBy, ValuesBy, CycleCounted, EvidenceNamed, EvidenceNamedBy};
 
 // What the judge says of a history: passed, if it is relatively serializable, else tangled; or refused, with the cause and the place.
@@ -269,6 +269,52 @@ fn name_evidence(
     }
 }
 
+// The judge of the first n places of a history, by its tables. If it is tangled, `names` has the value of the names of each arc of the cycle.
+fn judge_tables(
+    history: &[u8; Book::STEPS],
+    n: usize,
+    declared: usize,
+    catalogue: &Table,
+    dep: &Table,
+    firsts: &Units,
+    lasts: &Units,
+    order: &mut [u8],
+    cycle: &mut [u8],
+    names: &mut [u8],
+) -> Judgement
+    requires { ⌜ HistoryOf (now history) n × Declared (now history) n declared × RunRows (take n (now history)) n (now catalogue) × TablesOf (take n (now history)) (now dep) (now firsts) (now lasts) × (step-limit ≤ length (now order)) × (step-limit ≤ length (now cycle)) × (step-limit ≤ length (now names)) ⌝ }
+    ensures { λ r. ⌜ JudgedTables (take n (now (history .entry))) (now (dep .entry)) (now (firsts .entry)) (now (lasts .entry)) (now (order .entry)) (now (order .exit)) (now (cycle .entry)) (now (cycle .exit)) r ⌝ }
+    ensures { λ r. ⌜ EvidenceNamedBy (take n (now (history .entry))) (now (dep .entry)) (now (firsts .entry)) (now (lasts .entry)) (now (cycle .exit)) (now (names .entry)) (now (names .exit)) (r .verdict) (r .count) ⌝ }
+{
+    let mut arc = [0u64; bits::TABLE_WORDS];
+    graph::arcs(
+        history,
+        n,
+        declared,
+        catalogue,
+        dep,
+        firsts,
+        lasts,
+        &mut arc,
+    );
+    let judgement = judge_arcs(history, n, &arc, order, cycle);
+    let verdict = judgement.verdict;
+    let count = judgement.count;
+    name_evidence(
+        history,
+        n,
+        catalogue,
+        dep,
+        firsts,
+        lasts,
+        verdict,
+        count,
+        cycle,
+        names,
+    );
+    judgement
+}
+
 // The judge of a valid book's history. If it is tangled, `names` has the value of the names of each arc of the cycle, for whoever prints them.
 pub fn judge_book(b: Book, order: &mut [u8], cycle: &mut [u8], names: &mut [u8]) -> Judgement
     requires { ⌜ Valid b × (step-limit ≤ length (now order)) × (step-limit ≤ length (now cycle)) × (step-limit ≤ length (now names)) ⌝ }
@@ -279,33 +325,20 @@ pub fn judge_book(b: Book, order: &mut [u8], cycle: &mut [u8], names: &mut [u8])
     let mut dep = [0u64; bits::TABLE_WORDS];
     let mut firsts = [0u8; graph::UNITS_SIZE];
     let mut lasts = [0u8; graph::UNITS_SIZE];
-    let mut arc = [0u64; bits::TABLE_WORDS];
-    graph::arcs(
-        b,
-        &mut catalogue,
-        &mut dep,
-        &mut firsts,
-        &mut lasts,
-        &mut arc,
-    );
+    graph::tables(b, &mut catalogue, &mut dep, &mut firsts, &mut lasts);
     let history = b.history;
-    let n = b.done;
-    let judgement = judge_arcs(&history, n, &arc, order, cycle);
-    let verdict = judgement.verdict;
-    let count = judgement.count;
-    name_evidence(
+    judge_tables(
         &history,
-        n,
+        b.done,
+        b.declared,
         &catalogue,
         &dep,
         &firsts,
         &lasts,
-        verdict,
-        count,
+        order,
         cycle,
         names,
-    );
-    judgement
+    )
 }
 
 // Whether the judge passes a valid book's history, without evidence: whether the turns take every place.
@@ -318,16 +351,19 @@ pub fn passes(b: Book) -> bool
     let mut firsts = [0u8; graph::UNITS_SIZE];
     let mut lasts = [0u8; graph::UNITS_SIZE];
     let mut arc = [0u64; bits::TABLE_WORDS];
-    graph::arcs(
-        b,
-        &mut catalogue,
-        &mut dep,
-        &mut firsts,
-        &mut lasts,
-        &mut arc,
-    );
+    graph::tables(b, &mut catalogue, &mut dep, &mut firsts, &mut lasts);
     let history = b.history;
     let n = b.done;
+    graph::arcs(
+        &history,
+        n,
+        b.declared,
+        &catalogue,
+        &dep,
+        &firsts,
+        &lasts,
+        &mut arc,
+    );
     let turns = greedy(&history, n, &arc);
     turns.count == n
 }

@@ -1,19 +1,16 @@
--- The tables are those of the book's own conflict and unit, and `judge_arcs` judges by these.
+-- The tables are those of the book's own conflict and unit.
 use Rattle.graph.proofs.DependenceRows.{blank-zeros}
-use Rattle.graph.proofs.BookTables.{book-history, book-some-tables}
-use Rattle.judge.proofs.BookHistory.{book-graph, book-judged, book-named}
+use Rattle.graph.proofs.BookTables.{book-history, book-declared, book-some-tables}
+use Rattle.judge.proofs.BookHistory.{book-judged, book-named}
 use borrow.Author.Needs.{needs}
 use Rattle.judge.proofs.judge_book.Statement.{statement}
 use Rattle.judge.proofs.judge_book.Tie as tie
 
-arcs-requires : tie.Need-arcs-requires
-arcs-requires c κs = (search needs, search blank-zeros, search blank-zeros)
+tables-requires : tie.Need-tables-requires
+tables-requires c κs = (search needs, search blank-zeros, search blank-zeros)
 
-judge-arcs-requires : tie.Need-judge-arcs-requires
-judge-arcs-requires c κs = (search book-history, search book-graph, search needs, search needs)
-
-name-evidence-requires : tie.Need-name-evidence-requires
-name-evidence-requires c κs = (search book-history, search needs, search book-some-tables, search needs, search needs)
+judge-tables-requires : tie.Need-judge-tables-requires
+judge-tables-requires c κs = (search book-history, search book-declared, search needs, search book-some-tables, search needs, search needs, search needs)
 
 same-length : tie.Need-same-length
 same-length c = search needs
@@ -31,9 +28,8 @@ pub judge-book-spec : {M : Type 1} → statement M
 judge-book-spec =
     tie.close
     (tie.spec
-    arcs-requires
-    judge-arcs-requires
-    name-evidence-requires
+    tables-requires
+    judge-tables-requires
     same-length
     same-length-2
     same-length-3

@@ -49,7 +49,7 @@ put-findings-requires c κs =
     let start = list .before .before .before .before .before .before .before .before .before .before .before .before in (
       few-done (start .args .b) (start .pre .0),
       list-short (judged .result .verdict) (judged .result .count) (judged .last .1 .0) (judged .last .1 .1 .0) (list .front .ensures .0) (judged .kept .1 .0) (judged .kept .1 .1 .0),
-      list-short (judged .result .verdict) (judged .result .count) (judged .last .1 .0) (judged .last .1 .1 .1 .0) (values .front2 .ensures .0) (judged .kept .1 .0) (judged .kept .1 .1 .1 .0),
+      search list-short,
       start .pre .1,
     )
 
