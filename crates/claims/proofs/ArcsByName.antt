@@ -5,17 +5,15 @@ use native.Mathlib.Omega.{arith}
 use mathlib.Core.Path.{_≡_, refl, sym, ap, _∙_, subst}
 use mathlib.Core.Logic.{_⊎_, inl, inr, _≢_, _↔_}
 use mathlib.Core.Bool.{Bool, true, false}
-use mathlib.Core.List.{List, [], _∷_, map}
+use mathlib.Core.List.{List, [], _∷_, _++_, map, append-assoc}
 use lib.ListN.{length, getD, length-map}
-use Rattle.theory.specs.Graph.{ArcI, ArcD, ArcF, ArcB, Arc, arc-I, arc-D, arc-F, arc-B, Cycle}
+use Rattle.theory.specs.Graph.{ArcI, ArcD, ArcF, ArcB, arc-I, arc-D, arc-F, arc-B, Cycle}
 use Rattle.theory.specs.Rows.{Is}
-use Rattle.theory.specs.Answers.{Answers}
-use Rattle.theory.proofs.Answered.{refute}
 use Rattle.theory.proofs.Decided.{arc-source, arc-target}
 use Rattle.book.specs.Format.{Contents, Outcome, refused, accepted, read}
 use Rattle.book.specs.Numbers.{Numbers}
 use Rattle.book.specs.Meaning.{conflict-of, unit-of}
-use Rattle.names.specs.Names.{names-of, names-value, cycle-names}
+use Rattle.names.specs.Names.{names-value, cycle-names}
 use Rattle.names.specs.declared.ArcNames.{ArcNames}
 use Rattle.names.proofs.NameLaws.{is-i, is-d, is-f, is-b}
 use Rattle.names.proofs.CycleNames.{named-length, named-next, named-back}
@@ -25,11 +23,12 @@ use Rattle.classes.specs.declared.Tested.the-variants.{Yes, No, Refused as NotT
 use Rattle.evidence.specs.Named.{named-numbers, OutcomeNamed, NamedAs}
 use Rattle.evidence.specs.declared.Named.{Named}
 use Rattle.evidence.specs.declared.Named.the-variants.{Arcs, Refused as NotNamed}
-use Rattle.report.specs.Text.{Findings, Report, refused-at, accepted-with, Verdict, passed, tangled, first-letter}
-use Rattle.report.specs.Reporting.{VerdictOn, ReportOn, Reports}
+use Rattle.report.specs.Text.{Findings, Report, accepted-with, Verdict, tangled, first-letter, done-line, serial-line, atomic-line, relserial-line, conflict-line, verdict-line, evidence-line, arcs-line, text-of}
+use Rattle.report.specs.Reporting.{VerdictOn, ReportOn}
 use Rattle.report.proofs.FindingsLaws.{answer-is}
+use Rattle.report.proofs.NameLetters.{each-map}
 use Rattle.claims.specs.Demands.{answered-numbers}
-use Rattle.claims.specs.ArcsByName.{arcs-from, ArcFrom, AllThatHold, FirstHolds, letter-I, letter-D, letter-F, letter-B, Lettered, ArcsByName}
+use Rattle.claims.specs.ArcsByName.{arcs-from, ArcFrom, AllThatHold, FirstHolds, letter-I, letter-D, letter-F, letter-B, Lettered, cycle-text, arcs-text, ArcsUnder, ArcsByName}
 
 -- ---- what is said of an accepted book
 
@@ -90,9 +89,6 @@ module _ (s : List ℕ) (x y : ℕ) (r : Named) (t : Tested) (w : NamedAs (arcs-
     where
       refused-no : (n : Named) (cause : _) (at : ℕ) → n ≡ NotNamed cause at → named-numbers n .value ≢ 0 → ⊥
       refused-no n cause at e ne = ne (ap (λ (z : Named). named-numbers z .value) e)
-
-      not-yes : {a : Tested} → a ≢ Yes → a ≡ Yes → named-numbers r .value ≢ 0
-      not-yes ne e = absurd (ne e)
 
       tested : (c : Contents) (a : Tested) → YesWhere (ArcFrom x y c) a → (a ≡ Yes) ↔ ArcFrom x y c
       tested c (NotTested cause at) z = absurd z
@@ -170,12 +166,34 @@ module _ (c : Contents) (cycle : List ℕ) (k : Cycle (conflict-of c) (unit-of c
     back = first-at (length cycle - 1) (getD cycle 0 0) (omega (arith, k .least)) (named-back (conflict-of c) (unit-of c) (c .history) cycle (length cycle - 1) none (omega (arith, k .least))) (k .back);
   }
 
+-- ---- the text
+
+above : Findings → List ℕ
+above f = done-line (f .done) ++ (serial-line (f .serial) ++ (atomic-line (f .atomic) ++ (relserial-line (f .relserial) ++ (conflict-line (f .conflict) ++ verdict-line (f .verdict)))))
+
+eight : (a b c d e f g k : List ℕ) → a ++ (b ++ (c ++ (d ++ (e ++ (f ++ (g ++ k)))))) ≡ (a ++ (b ++ (c ++ (d ++ (e ++ f))))) ++ (g ++ k)
+eight a b c d e f g k = simp append-assoc
+
+text-ends : (f : Findings) (cycle : List ℕ) (names : List ArcNames) → f .verdict ≡ tangled cycle names → text-of (accepted-with f) ≡ above f ++ (cycle-text cycle ++ arcs-text (map first-letter names))
+unfolding text-of above
+text-ends f cycle names e =
+    eight (done-line (f .done)) (serial-line (f .serial)) (atomic-line (f .atomic)) (relserial-line (f .relserial)) (conflict-line (f .conflict)) (verdict-line (f .verdict)) (evidence-line (f .verdict)) (arcs-line (f .verdict))
+    ∙ ap (λ (l : List ℕ). above f ++ l) (lines (f .verdict) e)
+  where
+    lines : (v : Verdict) → v ≡ tangled cycle names → evidence-line v ++ arcs-line v ≡ cycle-text cycle ++ arcs-text (map first-letter names)
+    lines v q = rw (q, each-map (λ (x : ℕ). 0x20 ∷ x ∷ []) first-letter names)
+
 text-lettered : (s : List ℕ) (c : Contents) → read s ≡ accepted c → (v : Report) → ReportOn (read s) v → (f : Findings) (cycle : List ℕ) (names : List ArcNames) → v ≡ accepted-with f
-    → f .verdict ≡ tangled cycle names → Lettered c cycle (map first-letter names)
+    → f .verdict ≡ tangled cycle names → ArcsUnder c cycle (text-of (accepted-with f))
 text-lettered s c e v on f cycle names q u =
     let w : ReportOn (accepted c) (accepted-with f) = subst (λ (o : Outcome). ReportOn o (accepted-with f)) e (subst (ReportOn (read s)) q on) in
     let x : VerdictOn c (tangled cycle names) = subst (VerdictOn c) u (w .verdict-is) in
-    subst (λ (ws : List ArcNames). Lettered c cycle (map first-letter ws)) (sym (x .2)) (cycle-lettered c cycle (x .1))
+    record {
+      letters = map first-letter names;
+      lettered = subst (λ (ws : List ArcNames). Lettered c cycle (map first-letter ws)) (sym (x .2)) (cycle-lettered c cycle (x .1));
+      above = above f;
+      ends = text-ends f cycle names u;
+    }
 
 -- ---- the statement
 

@@ -49,8 +49,8 @@ use Rattle.gate.specs.declared.Played.the-variants.{Done, Refused as NotReplaye
 use Rattle.gate.specs.declared.Replayed.{Replayed}
 use Rattle.gate.proofs.PlainGate.{single, single-calls}
 use Rattle.gate.proofs.Unchanged.{same-record}
-use Rattle.report.specs.Text.{Report, refused-at, accepted-with, Verdict as ReportVerdict, passed, tangled, text-of}
-use Rattle.report.specs.Reporting.{VerdictOn, ReportOn}
+use Rattle.report.specs.Text.{Findings, Report, refused-at, accepted-with, Verdict as ReportVerdict, passed, tangled, text-of}
+use Rattle.report.specs.Reporting.{VerdictOn, FindingsOn, ReportOn}
 use Rattle.capi.specs.Numbers.{answered, opened-gate}
 use Rattle.capi.specs.Calls.{JudgeCall}
 use Rattle.capi.specs.declared.Judged.{Judged}
@@ -226,11 +226,13 @@ one-verdict c (passed l) (tangled m ns) w w′ = absurd (w′ .0 (record { order
 one-verdict c (tangled l ns) (passed m) w w′ = absurd (w .0 (record { order = m; evidence = w′ .0 }))
 one-verdict c (tangled l ns) (tangled m ks) w w′ = refl
 
-one-report : (o : Outcome) (v v′ : Report) → ReportOn o v → ReportOn o v′ → without-cycle v ≡ without-cycle v′
-one-report (refused cause at) v v′ w w′ = ap without-cycle (w ∙ sym w′)
-one-report (accepted c) (refused-at n at) v′ w w′ = absurd w
-one-report (accepted c) (accepted-with f) (refused-at n at) w w′ = absurd w′
-one-report (accepted c) (accepted-with v) (accepted-with v′) w w′ =
+-- findings with these verdicts in place of their own
+with-verdict : Findings → ReportVerdict → Report
+with-verdict v x = accepted-with (record { done = v .done; serial = v .serial; atomic = v .atomic; relserial = v .relserial; conflict = v .conflict; verdict = x })
+
+one-findings : (c : Contents) (v v′ : Findings) → FindingsOn c v → FindingsOn c v′ → {x x′ : ReportVerdict} → x ≡ x′ → with-verdict v x ≡ with-verdict v′ x′
+unfolding with-verdict
+one-findings c v v′ w w′ e =
     let k = w .classes-are in
     let k′ = w′ .classes-are in
     λ i. accepted-with (record {
@@ -239,8 +241,15 @@ one-report (accepted c) (accepted-with v) (accepted-with v′) w w′ =
       atomic = one-truth _ (v .atomic) (v′ .atomic) (k .atomic-is) (k′ .atomic-is) i;
       relserial = one-truth _ (v .relserial) (v′ .relserial) (k .relserial-is) (k′ .relserial-is) i;
       conflict = one-truth _ (v .conflict) (v′ .conflict) (k .conflict-is) (k′ .conflict-is) i;
-      verdict = one-verdict c (v .verdict) (v′ .verdict) (w .verdict-is) (w′ .verdict-is) i;
+      verdict = e i;
     })
+
+one-report : (o : Outcome) (v v′ : Report) → ReportOn o v → ReportOn o v′ → without-cycle v ≡ without-cycle v′
+unfolding with-verdict
+one-report (refused cause at) v v′ w w′ = ap without-cycle (w ∙ sym w′)
+one-report (accepted c) (refused-at n at) v′ w w′ = absurd w
+one-report (accepted c) (accepted-with f) (refused-at n at) w w′ = absurd w′
+one-report (accepted c) (accepted-with v) (accepted-with v′) w w′ = one-findings c v v′ w w′ (one-verdict c (v .verdict) (v′ .verdict) (w .verdict-is) (w′ .verdict-is))
 
 -- without a cycle, a report is whole
 whole-verdict : (c : Contents) → RelativelySerializable (conflict-of c) (unit-of c) (c .history) → (v : ReportVerdict) → VerdictOn c v → verdict-alone v ≡ v
@@ -262,20 +271,12 @@ cyclic-verdict c (tangled l ns) (tangled m ks) w w′ a e =
     ap₂ tangled e (w .2 ∙ ap (cycle-names (conflict-of c) (unit-of c) (c .history)) e ∙ sym (w′ .2))
 
 cyclic-report : (o : Outcome) (v v′ : Report) → ReportOn o v → ReportOn o v′ → cycle-of v ≡ cycle-of v′ → v ≡ v′
+unfolding with-verdict
 cyclic-report (refused cause at) v v′ w w′ e = w ∙ sym w′
 cyclic-report (accepted c) (refused-at n at) v′ w w′ e = absurd w
 cyclic-report (accepted c) (accepted-with f) (refused-at n at) w w′ e = absurd w′
 cyclic-report (accepted c) (accepted-with v) (accepted-with v′) w w′ e =
-    let k = w .classes-are in
-    let k′ = w′ .classes-are in
-    λ i. accepted-with (record {
-      done = (w .done-is ∙ sym (w′ .done-is)) i;
-      serial = one-truth _ (v .serial) (v′ .serial) (k .serial-is) (k′ .serial-is) i;
-      atomic = one-truth _ (v .atomic) (v′ .atomic) (k .atomic-is) (k′ .atomic-is) i;
-      relserial = one-truth _ (v .relserial) (v′ .relserial) (k .relserial-is) (k′ .relserial-is) i;
-      conflict = one-truth _ (v .conflict) (v′ .conflict) (k .conflict-is) (k′ .conflict-is) i;
-      verdict = cyclic-verdict c (v .verdict) (v′ .verdict) (w .verdict-is) (w′ .verdict-is) (one-verdict c (v .verdict) (v′ .verdict) (w .verdict-is) (w′ .verdict-is)) e i;
-    })
+    one-findings c v v′ w w′ (cyclic-verdict c (v .verdict) (v′ .verdict) (w .verdict-is) (w′ .verdict-is) (one-verdict c (v .verdict) (v′ .verdict) (w .verdict-is) (w′ .verdict-is)) e)
 
 -- ---- the calls for C
 

@@ -3,9 +3,9 @@
 use Prim.Native.Nat.{ℕ, suc, _-_, _≤_, _<_}
 use mathlib.Core.Path.{_≡_}
 use mathlib.Core.Logic.{_⊎_, _≢_, _↔_}
-use mathlib.Core.Bool.{Bool}
-use mathlib.Core.List.{List, map}
+use mathlib.Core.List.{List, [], _∷_, _++_}
 use lib.ListN.{length, getD}
+use Rattle.buffer.specs.Each.{each}
 use Rattle.theory.specs.Graph.{ArcI, ArcD, ArcF, ArcB, Arc}
 use Rattle.theory.specs.Rows.{Is}
 use Rattle.book.specs.Format.{Contents, accepted, read}
@@ -19,7 +19,7 @@ use Rattle.classes.specs.declared.Tested.the-variants.{Yes}
 use Rattle.evidence.specs.Named.{named-numbers, NamedAs}
 use Rattle.evidence.specs.declared.Named.{Named}
 use Rattle.evidence.specs.declared.Named.the-variants.{Arcs}
-use Rattle.report.specs.Text.{Findings, accepted-with, tangled, first-letter}
+use Rattle.report.specs.Text.{Findings, accepted-with, tangled, decimal, text-of}
 use Rattle.report.specs.Reporting.{Reports}
 use Rattle.capi.specs.Calls.{NameCall}
 use Rattle.capi.specs.declared.Answered.{Answered}
@@ -52,11 +52,26 @@ pub data FirstHolds (c : Contents) (x y : ℕ) : ℕ → Type 0 where
   letter-B : ¬ ArcI (c .history) x y → ¬ ArcD (conflict-of c) (c .history) x y → ¬ ArcF (conflict-of c) (unit-of c) (c .history) x y
       → ArcB (conflict-of c) (unit-of c) (c .history) x y → FirstHolds c x y 0x42
 
--- the letters of the arcs' line are, for each arc of the cycle in turn, the one back to the first place last, the first that holds
+-- the letters are, for each arc of the cycle in turn, the one back to the first place last, the first that holds
 pub record Lettered (c : Contents) (cycle letters : List ℕ) : Type 0 where
   pub many : length letters ≡ length cycle
   pub next : (i : ℕ) → suc i < length cycle → FirstHolds c (getD cycle i 0) (getD cycle (suc i) 0) (getD letters i 0)
   pub back : FirstHolds c (getD cycle (length cycle - 1) 0) (getD cycle 0 0) (getD letters (length cycle - 1) 0)
+
+-- the line of a cycle: "cycle", a blank and a place for each, the line end
+abbrev pub cycle-text : List ℕ → List ℕ
+cycle-text cycle = 0x63 ∷ 0x79 ∷ 0x63 ∷ 0x6C ∷ 0x65 ∷ (each (λ x. 0x20 ∷ decimal x) cycle ++ 0x0A ∷ [])
+
+-- the line of its arcs: "arcs", a blank and a letter for each, the line end
+abbrev pub arcs-text : List ℕ → List ℕ
+arcs-text letters = 0x61 ∷ 0x72 ∷ 0x63 ∷ 0x73 ∷ (each (λ x. 0x20 ∷ x ∷ []) letters ++ 0x0A ∷ [])
+
+-- the text ends in the line of the cycle and, under it, that of its arcs
+pub record ArcsUnder (c : Contents) (cycle text : List ℕ) : Type 0 where
+  pub letters : List ℕ
+  pub lettered : Lettered c cycle letters
+  pub above : List ℕ
+  pub ends : text ≡ above ++ (cycle-text cycle ++ arcs-text letters)
 
 -- ---- the statement
 
@@ -73,6 +88,7 @@ pub record ArcsByName : Type 0 where
   -- a place beyond the done steps has none.
   pub beyond : (s : List ℕ) (c : Contents) → read s ≡ accepted c → (x y : ℕ) (r : Named) → NamedAs (arcs-from x y) s r
       → (length (c .history) ≤ x) ⊎ (length (c .history) ≤ y) → named-numbers r .value ≡ 0
-  -- Under the cycle the program adds a line "arcs" with, for each arc in turn, the one back to the first place last, the first of I, D, F, B that holds.
+  -- Under the cycle the program adds a line "arcs" with, for each arc in turn, the one back to the first place last, a blank and the first of I, D, F, B
+  -- that holds.
   pub lettered : (s : List ℕ) (c : Contents) → read s ≡ accepted c → (text text′ : List ℕ) (n : ℕ) (w : Reports (read s) text text′ n)
-      → (f : Findings) (cycle : List ℕ) (names : List ArcNames) → w .report ≡ accepted-with f → f .verdict ≡ tangled cycle names → Lettered c cycle (map first-letter names)
+      → (f : Findings) (cycle : List ℕ) (names : List ArcNames) → w .report ≡ accepted-with f → f .verdict ≡ tangled cycle names → ArcsUnder c cycle (text-of (accepted-with f))

@@ -125,7 +125,7 @@ module _ (earlier : List Pair → List (List Step) → ℕ → ℕ → ℕ → �
 pub record OldBooks : Type 1 where
   -- their conflict is the earlier one,
   pub conflicts : (c : Contents) → WithoutHoming (c .runs) → conflict-of c ≡ before-homing (c .pairs) (c .runs)
-  -- and so is whatever is said by it, as in the contracts of the calls on a valid book: `graph::dependences`, `graph::tables`, `graph::arcs`, `judge::judge_book`,
+  -- and so is whatever is said by it, as in the contracts of the calls on a valid book: `graph::dependences`, `graph::tables`, `judge::judge_book`,
   -- `judge::passes`, `classes::is_relatively_serial`, `classes::is_conflict_serializable`
   pub by-conflict : (c : Contents) → WithoutHoming (c .runs) → (P : (ℕ → ℕ → ℕ → ℕ → Bool) → Type 0) → P (conflict-of c) ↔ P (before-homing (c .pairs) (c .runs))
   -- What the calls on bytes, those on a gate's record, and a pass over a history give

@@ -3,7 +3,7 @@
 use Prim.Native.Nat.{ℕ, _*_, _/_, _≤_, _<_}
 use mathlib.Core.Path.{_≡_}
 use mathlib.Core.Bool.{Bool, true, false}
-use mathlib.Core.List.{List, [], _∷_, _++_, map}
+use mathlib.Core.List.{List, [], _∷_, _++_}
 use lib.ListN.{length, getD, take}
 use Rattle.bits.specs.Table.{row-words}
 use Rattle.buffer.specs.Put.{Put}
@@ -24,7 +24,7 @@ use Rattle.gate.specs.declared.Replayed.{Replayed}
 use Rattle.gate.specs.declared.Played.the-variants.{Done}
 use Rattle.names.specs.Names.{names-value}
 use Rattle.names.specs.declared.ArcNames.{ArcNames}
-use Rattle.report.specs.Text.{Findings, tangled, refused-at, accepted-with, first-letter, text-of}
+use Rattle.report.specs.Text.{Findings, tangled, refused-at, accepted-with, text-of}
 use Rattle.report.specs.Reporting.{Reports}
 use Rattle.capi.specs.declared.Answered.{Answered}
 use Rattle.capi.specs.declared.Judged.{Judged}
@@ -33,7 +33,7 @@ use Rattle.claims.specs.OnePass.{Fed, RowsAfter}
 use Rattle.claims.specs.Table.{BookRow, NoRow, JudgeRow, WriterRow, GateRow, ReplayRow}
 use Rattle.claims.specs.Demands.{TurnsAway, BuffersUnchanged, WithoutRuns, answered-numbers, judged-numbers, opened-numbers, Demand2}
 use Rattle.claims.specs.Classes.{OtherCuts, JudgeAnswered, ClassesAnswered, DeckJudgeAnswered, DeckClassesAnswered, SaysYes, SaysPassed, TextSaysPassed, NestedCalls, NestedDeckCalls, NestedFindings}
-use Rattle.claims.specs.ArcsByName.{AllThatHold, Lettered}
+use Rattle.claims.specs.ArcsByName.{AllThatHold, ArcsUnder}
 use Rattle.demands.specs.declared.BookAnswers.{BookAnswers}
 use Rattle.demands.specs.declared.ClassAnswers.{ClassAnswers}
 use Rattle.demands.specs.declared.DeckClassAnswers.{DeckClassAnswers}
@@ -106,19 +106,6 @@ pub record NestedText (s before after : List ℕ) (n : ℕ) : Type 0 where
   pub any-cuts : (s′ : List ℕ) → OtherCuts s s′ → (before′ after′ : List ℕ) (n′ : ℕ) (p′ : Reports (read s′) before′ after′ n′) (w w′ : Findings)
       → promised .report ≡ accepted-with w → p′ .report ≡ accepted-with w′ → w .conflict ≡ true → TextSaysPassed (w′ .verdict)
 
--- ---- document 02, change 5: arcs by name
-
--- all of I, D, F and B that hold, by their sum; of a refused book, the reader's numbers
-pub record ArcsNamed (s : List ℕ) (from to : ℕ) (r : Answered) : Type 0 where
-  pub refusals : ByBook s r
-  pub named : (c : Contents) → read s ≡ accepted c → (w : ArcNames) × (answered-numbers r ≡ value-of (names-value w)) × AllThatHold c from to w
-
--- the letters under a cycle, in the buffer before and after the call
-pub record TextLettered (s before after : List ℕ) (n : ℕ) : Type 0 where
-  pub promised : Reports (read s) before after n
-  pub lettered : (c : Contents) → read s ≡ accepted c → (w : Findings) (cycle : List ℕ) (names : List ArcNames) → promised .report ≡ accepted-with w → w .verdict ≡ tangled cycle names
-      → Lettered c cycle (map first-letter names)
-
 -- ---- document 02, change 3: one pass over the history
 
 -- where x is to be read as place q, the next step of run r, by tables that were fed the steps of l
@@ -135,3 +122,16 @@ pub record StepFed (pairs catalogue catalogue′ dep dep′ : List ℕ) (q r : �
       → RowsAfter pairs runs (l ++ r ∷ []) dep′
   pub unchanged : answer ≡ true → (runs : List (List Step)) (h c d l : List ℕ) → length l ≡ q → step-of runs r (count l r) ≡ x → Fed pairs runs h c d l catalogue dep
       → (i : ℕ) → i / row-words < length h → getD dep′ i 0 ≡ getD d i 0
+
+-- ---- document 02, change 5: arcs by name
+
+-- all of I, D, F and B that hold, by their sum; of a refused book, the reader's numbers
+pub record ArcsNamed (s : List ℕ) (from to : ℕ) (r : Answered) : Type 0 where
+  pub refusals : ByBook s r
+  pub named : (c : Contents) → read s ≡ accepted c → (w : ArcNames) × (answered-numbers r ≡ value-of (names-value w)) × AllThatHold c from to w
+
+-- the letters under a cycle, in the buffer before and after the call
+pub record TextLettered (s before after : List ℕ) (n : ℕ) : Type 0 where
+  pub promised : Reports (read s) before after n
+  pub lettered : (c : Contents) → read s ≡ accepted c → (w : Findings) (cycle : List ℕ) (names : List ArcNames) → promised .report ≡ accepted-with w → w .verdict ≡ tangled cycle names
+      → ArcsUnder c cycle (text-of (accepted-with w))

@@ -1,7 +1,8 @@
 // The demands as contracts: `demand_1`, `demand_2` and `demand_3` make the public calls and ensure the demand of what they return; `nested_classes`,
-// `nested_deck_classes` and `nested_text` ask for the classes of a book and ensure that they are nested; `named_arcs` and `lettered_text` ask for the names of
-// arcs and ensure that they are all that hold, and the first; `feed_step` has one more step of a history read, and ensures what the one pass over it promises.
-// `claims` states all this, and proves it of whatever meets the calls' contracts.
+// `nested_deck_classes` and `nested_text` ask for the classes of a book and ensure that they are nested; `named_arcs` asks for the arcs from one place to
+// another and ensures that they are all that hold, `lettered_text` makes the text and ensures that each letter under a cycle is the first that holds;
+// `feed_step` has one more step of a history read, and ensures what the one pass over it promises. `claims` states all this, and proves it of whatever
+// meets the calls' contracts.
 use bits::Table;
 use book::Answer;
 use book::Book;
@@ -206,13 +207,13 @@ fn judgement_by(answer: Answer, b: Book) -> Judgement
 {
     let mut order = [0u8; Book::STEPS];
     let mut cycle = [0u8; Book::STEPS];
-    let mut names = [0u8; Book::STEPS];
+    let mut values = [0u8; Book::STEPS];
     match answer {
         Answer::Refused(cause, place) => Judgement {
             verdict: Verdict::Refused(cause, place),
             count: 0,
         },
-        Answer::Accepted => judge::judge_book(b, &mut order, &mut cycle, &mut names),
+        Answer::Accepted => judge::judge_book(b, &mut order, &mut cycle, &mut values),
     }
 }
 

@@ -36,10 +36,10 @@ module _ (b : Book) (v : Valid b) (dep firsts lasts : List ℕ) (t : TablesBy (c
   book-judged order order′ cycle cycle′ j w = w .judged (book-some-tables b v dep firsts lasts t) (lawful (contents-of b .pairs) (contents-of b .runs))
 
   -- the names by the tables are those of the book's own conflict and unit
-  pub book-named : (cycle names names′ : List ℕ) (verdict : Verdict) (count : ℕ) → EvidenceNamedBy (take (b .done) (b .history)) dep firsts lasts cycle names names′ verdict count
-      → EvidenceNamed (conflict-of (contents-of b)) (unit-of (contents-of b)) (contents-of b .history) cycle names names′ verdict count
+  pub book-named : (cycle values values′ : List ℕ) (verdict : Verdict) (count : ℕ) → EvidenceNamedBy (take (b .done) (b .history)) dep firsts lasts cycle values values′ verdict count
+      → EvidenceNamed (conflict-of (contents-of b)) (unit-of (contents-of b)) (contents-of b .history) cycle values values′ verdict count
   unfolding contents-of book-some-tables
-  book-named cycle names names′ verdict count e = e .by (book-some-tables b v dep firsts lasts t)
+  book-named cycle values values′ verdict count e = e .by (book-some-tables b v dep firsts lasts t)
 
   pub book-passes : (arc : List ℕ) → ArcRows (take (b .done) (b .history)) dep firsts lasts arc → (k : Turns) → TurnsTaken (b .history) (b .done) arc k
       → Answers (RelativelySerializable (conflict-of (contents-of b)) (unit-of (contents-of b)) (contents-of b .history)) (eqb (k .count) (b .done))

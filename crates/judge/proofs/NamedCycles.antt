@@ -6,11 +6,10 @@ use native.Mathlib.Numerals.{add-one}
 use native.Mathlib.Omega.{arith}
 use mathlib.Core.Path.{_≡_, refl, sym, ap, ap₂, _∙_, subst}
 use mathlib.Core.Logic.{_⊎_, inl, inr}
-use mathlib.Core.Bool.{Bool, cond}
+use mathlib.Core.Bool.{Bool}
 use mathlib.Core.List.{List, [], _∷_, _++_, map}
-use lib.ListN.{length, getD, take, drop, set, length-set, length-append, List·getD-append}
-use lib.Seq.{getD-set-same, getD-set-other, getD-append-seam, getD-take, length-take-le}
-use lib.Dec.{ltb}
+use lib.ListN.{length, getD, take, drop, set, length-set, length-drop, take-append-drop}
+use lib.Seq.{getD-set-same, getD-set-other, getD-take, getD-drop, length-take-le, ext-getD}
 use borrow.Author.Tests.{lt-ltb, le-ltb}
 use Rattle.theory.proofs.Finite.{below-suc}
 use Rattle.book.specs.Format.{step-limit}
@@ -70,27 +69,42 @@ value-is h dep firsts lasts cycle len i k x y v w long inside a ex ey b ev = rec
     at-take : (j : ℕ) → j < len → getD (take len cycle) j 0 ≡ getD cycle j 0
     at-take j l = getD-take len cycle j 0 l
 
-module _ (h dep firsts lasts cycle : List ℕ) (len : ℕ) where
-  -- the first m arcs of the cycle have their values, and there is room for all
-  pub record NamedUpTo (names : List ℕ) (m : ℕ) : Type 0 where
+module _ (h dep firsts lasts cycle : List ℕ) (len : ℕ) (before : List ℕ) where
+  -- the first m arcs of the cycle have their values, there is room for all, and what lies behind is as before
+  pub record NamedUpTo (values : List ℕ) (m : ℕ) : Type 0 where
     pub size : length (take len cycle) ≡ len
-    pub long : len ≤ length names
-    pub at : (k : ℕ) → k < m → ValueBy h dep firsts lasts (take len cycle) k (getD names k 0)
+    pub long : len ≤ length values
+    pub same : length values ≡ length before
+    pub turn : m ≤ len
+    pub at : (k : ℕ) → k < m → ValueBy h dep firsts lasts (take len cycle) k (getD values k 0)
+    pub behind : (k : ℕ) → len ≤ k → getD values k 0 ≡ getD before k 0
 
-  pub named-none : (names : List ℕ) → len ≤ length cycle → len ≤ length names → NamedUpTo names 0
-  named-none names e l = record { size = length-take-le len cycle e; long = l; at = λ k i. absurd (not-suc-le-zero i) }
+  pub named-none : len ≤ length cycle → len ≤ length before → NamedUpTo before 0
+  named-none e l = record { size = length-take-le len cycle e; long = l; same = refl; turn = zero-le; at = λ k i. absurd (not-suc-le-zero i); behind = λ k i. refl }
 
-  pub named-more : (names : List ℕ) (i v : ℕ) → NamedUpTo names i → i < len → ValueBy h dep firsts lasts (take len cycle) i v → NamedUpTo (set names i v) (i + 1)
-  named-more names i v u inside b = record { size = u .size; long = rw (length-set names i v) (u .long); at = λ j l. go j (below-suc (rw (← add-one i) l)) }
-    where
-      go : (j : ℕ) → (j ≡ i) ⊎ (j < i) → ValueBy h dep firsts lasts (take len cycle) j (getD (set names i v) j 0)
-      go j (inl e) = rw (e, getD-set-same names i v 0 (omega (arith, u .long))) b
-      go j (inr l) = rw (getD-set-other names i j v 0 (omega arith)) (u .at j l)
-
-  pub named-all : (names : List ℕ) (i : ℕ) → NamedUpTo names i → len ≤ i → ValuesBy h dep firsts lasts (take len cycle) names
-  named-all names i u l = record {
-    by = λ a. values-are (a .conflict) (a .unit) h (take len cycle) (after-each (take len cycle)) names (after-length (take len cycle)) (omega (arith, u .size, u .long)) (λ k j. u .at k (omega (arith, u .size)) .by a);
+  pub named-more : (values : List ℕ) (i v : ℕ) → NamedUpTo values i → i < len → ValueBy h dep firsts lasts (take len cycle) i v → NamedUpTo (set values i v) (i + 1)
+  named-more values i v u inside b = record {
+    size = u .size;
+    long = rw (length-set values i v) (u .long);
+    same = length-set values i v ∙ u .same;
+    turn = omega arith;
+    at = λ j l. go j (below-suc (rw (← add-one i) l));
+    behind = λ k l. getD-set-other values i k v 0 (omega arith) ∙ u .behind k l;
   }
+    where
+      go : (j : ℕ) → (j ≡ i) ⊎ (j < i) → ValueBy h dep firsts lasts (take len cycle) j (getD (set values i v) j 0)
+      go j (inl e) = rw (e, getD-set-same values i v 0 (omega (arith, u .long))) b
+      go j (inr l) = rw (getD-set-other values i j v 0 (omega arith)) (u .at j l)
+
+  pub named-all : (values : List ℕ) (i : ℕ) → NamedUpTo values i → len ≤ i → ValuesBy h dep firsts lasts (take len cycle) before values
+  named-all values i u l = record { by = λ a. rw (u .size) (sym (take-append-drop len values) ∙ ap₂ (λ (x y : List ℕ). x ++ y) (rw (u .size) at (front a)) rest) }
+    where
+      front : (a : TablesOf h dep firsts lasts) → take (length (take len cycle)) values ≡ map names-value (cycle-names (a .conflict) (a .unit) h (take len cycle))
+      front a = values-are (a .conflict) (a .unit) h (take len cycle) (after-each (take len cycle)) values (after-length (take len cycle)) (omega (arith, u .size, u .long)) (λ k j. u .at k (omega (arith, u .size)) .by a)
+
+      rest : drop len values ≡ drop len before
+      rest = ext-getD 0 (drop len values) (drop len before) (omega (arith, length-drop len values, length-drop len before, u .same))
+          (λ k j. getD-drop len values k 0 ∙ u .behind (len + k) (omega arith) ∙ sym (getD-drop len before k 0))
 
 -- ---- of a judgement
 
@@ -101,17 +115,17 @@ module _ (cycle : List ℕ) (verdict : Verdict) (count : ℕ) (c : CycleCounted 
   pub counted-inside : count ≤ length cycle
   counted-inside = counted .inside
 
-  pub counted-room : (names : List ℕ) → step-limit ≤ length names → count ≤ length names
-  counted-room names l = omega (arith, counted .few)
+  pub counted-room : (values : List ℕ) → step-limit ≤ length values → count ≤ length values
+  counted-room values l = omega (arith, counted .few)
 
-  pub tangled-named : (h dep firsts lasts names names′ : List ℕ) → ValuesBy h dep firsts lasts (take count cycle) names′ → EvidenceNamedBy h dep firsts lasts cycle names names′ verdict count
-  tangled-named h dep firsts lasts names names′ w = record {
-    by = λ a. subst (λ (v : Verdict). EvidenceNamed (a .conflict) (a .unit) h cycle names names′ v count) (sym e) (rw (length-take-le count cycle (counted .inside)) at (w .by a));
+  pub tangled-named : (h dep firsts lasts values values′ : List ℕ) → ValuesBy h dep firsts lasts (take count cycle) values values′ → EvidenceNamedBy h dep firsts lasts cycle values values′ verdict count
+  tangled-named h dep firsts lasts values values′ w = record {
+    by = λ a. subst (λ (v : Verdict). EvidenceNamed (a .conflict) (a .unit) h cycle values values′ v count) (sym e) (rw (length-take-le count cycle (counted .inside)) at (w .by a));
   }
 
-module _ (h dep firsts lasts cycle names : List ℕ) (verdict : Verdict) (count : ℕ) where
-  pub passed-unnamed : verdict ≡ Passed → EvidenceNamedBy h dep firsts lasts cycle names names verdict count
+module _ (h dep firsts lasts cycle values : List ℕ) (verdict : Verdict) (count : ℕ) where
+  pub passed-unnamed : verdict ≡ Passed → EvidenceNamedBy h dep firsts lasts cycle values values verdict count
   passed-unnamed e = record { by = λ a. rw e refl }
 
-  pub refused-unnamed : (cause : Cause) (place : ℕ) → verdict ≡ Refused cause place → EvidenceNamedBy h dep firsts lasts cycle names names verdict count
+  pub refused-unnamed : (cause : Cause) (place : ℕ) → verdict ≡ Refused cause place → EvidenceNamedBy h dep firsts lasts cycle values values verdict count
   refused-unnamed cause place e = record { by = λ a. rw e refl }

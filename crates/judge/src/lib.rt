@@ -222,14 +222,14 @@ fn name_arcs(
     lasts: &Units,
     cycle: &[u8],
     len: usize,
-    names: &mut [u8],
+    values: &mut [u8],
 )
-    requires { ⌜ HistoryOf (now history) n × RunRows (take n (now history)) n (now catalogue) × TablesOf (take n (now history)) (now dep) (now firsts) (now lasts) × (len ≤ length (now cycle)) × (len ≤ length (now names)) ⌝ }
-    ensures { λ _. ⌜ ValuesBy (take n (now (history .entry))) (now (dep .entry)) (now (firsts .entry)) (now (lasts .entry)) (take len (now (cycle .entry))) (now (names .exit)) ⌝ }
+    requires { ⌜ HistoryOf (now history) n × RunRows (take n (now history)) n (now catalogue) × TablesOf (take n (now history)) (now dep) (now firsts) (now lasts) × (len ≤ length (now cycle)) × (len ≤ length (now values)) ⌝ }
+    ensures { λ _. ⌜ ValuesBy (take n (now (history .entry))) (now (dep .entry)) (now (firsts .entry)) (now (lasts .entry)) (take len (now (cycle .entry))) (now (values .entry)) (now (values .exit)) ⌝ }
 {
     let mut i = 0;
     while i < len {
-        names[i] = arc_value(history, n, catalogue, dep, firsts, lasts, cycle, len, i);
+        values[i] = arc_value(history, n, catalogue, dep, firsts, lasts, cycle, len, i);
         i += 1;
     }
 }
@@ -242,14 +242,15 @@ fn name_evidence(
     dep: &Table,
     firsts: &Units,
     lasts: &Units,
-    verdict: Verdict,
-    count: usize,
+    judgement: Judgement,
     cycle: &[u8],
-    names: &mut [u8],
+    values: &mut [u8],
 )
-    requires { ⌜ HistoryOf (now history) n × RunRows (take n (now history)) n (now catalogue) × TablesOf (take n (now history)) (now dep) (now firsts) (now lasts) × CycleCounted (now cycle) verdict count × (step-limit ≤ length (now names)) ⌝ }
-    ensures { λ _. ⌜ EvidenceNamedBy (take n (now (history .entry))) (now (dep .entry)) (now (firsts .entry)) (now (lasts .entry)) (now (cycle .entry)) (now (names .entry)) (now (names .exit)) verdict count ⌝ }
+    requires { ⌜ HistoryOf (now history) n × RunRows (take n (now history)) n (now catalogue) × TablesOf (take n (now history)) (now dep) (now firsts) (now lasts) × CycleCounted (now cycle) (judgement .verdict) (judgement .count) × (step-limit ≤ length (now values)) ⌝ }
+    ensures { λ _. ⌜ EvidenceNamedBy (take n (now (history .entry))) (now (dep .entry)) (now (firsts .entry)) (now (lasts .entry)) (now (cycle .entry)) (now (values .entry)) (now (values .exit)) (judgement .verdict) (judgement .count) ⌝ }
 {
+    let verdict = judgement.verdict;
+    let count = judgement.count;
     match verdict {
         Verdict::Tangled => {
             name_arcs(
@@ -261,7 +262,7 @@ fn name_evidence(
                 lasts,
                 cycle,
                 count,
-                names,
+                values,
             );
         }
         Verdict::Passed => {}
@@ -269,7 +270,7 @@ fn name_evidence(
     }
 }
 
-// The judge of the first n places of a history, by its tables. If it is tangled, `names` has the value of the names of each arc of the cycle.
+// The judge of the first n places of a history, by its tables. If it is tangled, `values` has the value of the names of each arc of the cycle.
 fn judge_tables(
     history: &[u8; Book::STEPS],
     n: usize,
@@ -280,11 +281,11 @@ fn judge_tables(
     lasts: &Units,
     order: &mut [u8],
     cycle: &mut [u8],
-    names: &mut [u8],
+    values: &mut [u8],
 ) -> Judgement
-    requires { ⌜ HistoryOf (now history) n × Declared (now history) n declared × RunRows (take n (now history)) n (now catalogue) × TablesOf (take n (now history)) (now dep) (now firsts) (now lasts) × (step-limit ≤ length (now order)) × (step-limit ≤ length (now cycle)) × (step-limit ≤ length (now names)) ⌝ }
+    requires { ⌜ HistoryOf (now history) n × Declared (now history) n declared × RunRows (take n (now history)) n (now catalogue) × TablesOf (take n (now history)) (now dep) (now firsts) (now lasts) × (step-limit ≤ length (now order)) × (step-limit ≤ length (now cycle)) × (step-limit ≤ length (now values)) ⌝ }
     ensures { λ r. ⌜ JudgedTables (take n (now (history .entry))) (now (dep .entry)) (now (firsts .entry)) (now (lasts .entry)) (now (order .entry)) (now (order .exit)) (now (cycle .entry)) (now (cycle .exit)) r ⌝ }
-    ensures { λ r. ⌜ EvidenceNamedBy (take n (now (history .entry))) (now (dep .entry)) (now (firsts .entry)) (now (lasts .entry)) (now (cycle .exit)) (now (names .entry)) (now (names .exit)) (r .verdict) (r .count) ⌝ }
+    ensures { λ r. ⌜ EvidenceNamedBy (take n (now (history .entry))) (now (dep .entry)) (now (firsts .entry)) (now (lasts .entry)) (now (cycle .exit)) (now (values .entry)) (now (values .exit)) (r .verdict) (r .count) ⌝ }
 {
     let mut arc = [0u64; bits::TABLE_WORDS];
     graph::arcs(
@@ -298,8 +299,6 @@ fn judge_tables(
         &mut arc,
     );
     let judgement = judge_arcs(history, n, &arc, order, cycle);
-    let verdict = judgement.verdict;
-    let count = judgement.count;
     name_evidence(
         history,
         n,
@@ -307,19 +306,18 @@ fn judge_tables(
         dep,
         firsts,
         lasts,
-        verdict,
-        count,
+        judgement,
         cycle,
-        names,
+        values,
     );
     judgement
 }
 
-// The judge of a valid book's history. If it is tangled, `names` has the value of the names of each arc of the cycle, for whoever prints them.
-pub fn judge_book(b: Book, order: &mut [u8], cycle: &mut [u8], names: &mut [u8]) -> Judgement
-    requires { ⌜ Valid b × (step-limit ≤ length (now order)) × (step-limit ≤ length (now cycle)) × (step-limit ≤ length (now names)) ⌝ }
+// The judge of a valid book's history. If it is tangled, `values` has the value of the names of each arc of the cycle, for whoever prints them.
+pub fn judge_book(b: Book, order: &mut [u8], cycle: &mut [u8], values: &mut [u8]) -> Judgement
+    requires { ⌜ Valid b × (step-limit ≤ length (now order)) × (step-limit ≤ length (now cycle)) × (step-limit ≤ length (now values)) ⌝ }
     ensures { λ r. ⌜ JudgedAs (conflict-of (contents-of b)) (unit-of (contents-of b)) (contents-of b .history) (now (order .entry)) (now (order .exit)) (now (cycle .entry)) (now (cycle .exit)) (r .verdict) (r .count) ⌝ }
-    ensures { λ r. ⌜ EvidenceNamed (conflict-of (contents-of b)) (unit-of (contents-of b)) (contents-of b .history) (now (cycle .exit)) (now (names .entry)) (now (names .exit)) (r .verdict) (r .count) ⌝ }
+    ensures { λ r. ⌜ EvidenceNamed (conflict-of (contents-of b)) (unit-of (contents-of b)) (contents-of b .history) (now (cycle .exit)) (now (values .entry)) (now (values .exit)) (r .verdict) (r .count) ⌝ }
 {
     let mut catalogue = [0u64; bits::TABLE_WORDS];
     let mut dep = [0u64; bits::TABLE_WORDS];
@@ -337,7 +335,7 @@ pub fn judge_book(b: Book, order: &mut [u8], cycle: &mut [u8], names: &mut [u8])
         &lasts,
         order,
         cycle,
-        names,
+        values,
     )
 }
 
@@ -394,8 +392,8 @@ pub fn judge(s: &[u8], order: &mut [u8], cycle: &mut [u8]) -> Judgement
         Answer::Refused(cause, place) => refused(cause, place),
         Answer::Accepted => {
             let b = reading.book;
-            let mut names = [0u8; Book::STEPS];
-            judge_book(b, order, cycle, &mut names)
+            let mut values = [0u8; Book::STEPS];
+            judge_book(b, order, cycle, &mut values)
         }
     }
 }

@@ -1,17 +1,17 @@
 -- The names of the arcs from one place to another, read off the tables. What a step depends on in a run is a prefix of that run: a place depends on some
 -- step of a unit exactly if it depends on the first, and some step of a unit depends on a place exactly if the last does.
-use Prim.Native.Nat.{ℕ, suc, _+_, _*_, _≤_, _<_}
+use Prim.Native.Nat.{ℕ, _+_, _*_, _≤_, _<_}
 use native.Mathlib.Nat.{le-antisymm, lt-irrefl}
 use native.Mathlib.Decide.{ℕ-discrete, decLt}
 use native.Mathlib.Omega.{arith}
-use mathlib.Core.Path.{_≡_, refl, sym, ap, _∙_, subst}
+use mathlib.Core.Path.{_≡_, refl, sym, _∙_, subst}
 use mathlib.Core.Logic.{_≢_}
 use mathlib.Core.Bool.{Bool, true, false}
 use mathlib.Core.List.{List}
 use lib.ListN.{length, getD, take}
 use lib.Dec.{eqb}
 use borrow.Author.Tests.{eqb-true, eq-eqb}
-use Rattle.bits.specs.Table.{row-bits, rows, bit-at, intersection, RowCopied}
+use Rattle.bits.specs.Table.{row-bits, bit-at, intersection, RowCopied}
 use Rattle.bits.specs.First.{NoColumn}
 use Rattle.bits.specs.Last.{LastAt, Last}
 use Rattle.bits.specs.declared.Found.{Found}
@@ -21,16 +21,17 @@ use Rattle.theory.specs.History.{run, ordinal}
 use Rattle.theory.specs.Relative.{Depends}
 use Rattle.theory.specs.Graph.{FirstOf, LastOf, ArcI, ArcD, ArcF, ArcB, arc-I, arc-D, arc-F, arc-B}
 use Rattle.theory.specs.Answers.{Answers}
-use Rattle.theory.proofs.Answered.{answer-no, false-true}
+use Rattle.theory.proofs.Answered.{answer-no}
+use Rattle.theory.proofs.Finite.{is-yes}
 use Rattle.theory.proofs.Places.{ordinal-mono}
 use Rattle.theory.proofs.Steps.{dep-lt, dep-inside, unit-sym}
 use Rattle.theory.proofs.Decided.{arc-source, arc-target, dec-arc-I, dec-arc-D, dec-arc-F, dec-arc-B}
 use Rattle.book.specs.Format.{run-limit, step-limit}
 use Rattle.graph.specs.Catalogue.{base, run-part}
-use Rattle.names.specs.Names.{holds, names-of}
+use Rattle.names.specs.Names.{names-of}
 use Rattle.graph.specs.inner.Tables.{HistoryOf, NumberAt}
 use Rattle.graph.specs.inner.Arcs.{RunRows, TablesOf, Rowed}
-use Rattle.names.specs.inner.Tables.{LastLeads, FirstLed, NamesBy}
+use Rattle.names.specs.inner.Tables.{LastLeads, FirstLed, no-names, NamesBy}
 use Rattle.names.specs.declared.ArcNames.{ArcNames}
 use Rattle.graph.proofs.Counting.{clash, history-length, history-run, history-small}
 use Rattle.graph.proofs.DependenceRows.{dep-trans}
@@ -40,14 +41,14 @@ use Rattle.graph.proofs.ArcMarks.{rowed}
 -- ---- the names that hold
 
 -- an answer is what a decision says
-answer-holds : {P : Type 0} (d : Dec P) (t : Bool) → Answers P t → t ≡ holds d
-answer-holds (yes p) t a = a .complete p
-answer-holds (no n) true a = absurd (n (a .sound refl))
-answer-holds (no n) false a = refl
+answer-yes : {P : Type 0} (d : Dec P) (t : Bool) → Answers P t → t ≡ is-yes d
+answer-yes (yes p) t a = a .complete p
+answer-yes (no n) true a = absurd (n (a .sound refl))
+answer-yes (no n) false a = refl
 
-pub holds-answers : {P : Type 0} (d : Dec P) → Answers P (holds d)
-holds-answers (yes p) = record { sound = λ e. p; complete = λ p. refl }
-holds-answers (no n) = answer-no n
+pub yes-answers : {P : Type 0} (d : Dec P) → Answers P (is-yes d)
+yes-answers (yes p) = record { sound = λ e. p; complete = λ p. refl }
+yes-answers (no n) = answer-no n
 
 abbrev pub names : Bool → Bool → Bool → Bool → ArcNames
 names i d f b = record { i = i; d = d; f = f; b = b }
@@ -56,23 +57,23 @@ module _ (conflict : ℕ → ℕ → ℕ → ℕ → Bool) (unit : ℕ → ℕ �
   names-are : {i d f b : Bool} → Answers (ArcI h x y) i → Answers (ArcD conflict h x y) d → Answers (ArcF conflict unit h x y) f → Answers (ArcB conflict unit h x y) b
       → names i d f b ≡ names-of conflict unit h x y
   unfolding names-of
-  names-are {i} {d} {f} {b} ai ad af ab = rw (answer-holds (dec-arc-I h x y) i ai, answer-holds (dec-arc-D conflict h x y) d ad, answer-holds (dec-arc-F conflict unit h x y) f af, answer-holds (dec-arc-B conflict unit h x y) b ab)
+  names-are {i} {d} {f} {b} ai ad af ab = rw (answer-yes (dec-arc-I h x y) i ai, answer-yes (dec-arc-D conflict h x y) d ad, answer-yes (dec-arc-F conflict unit h x y) f af, answer-yes (dec-arc-B conflict unit h x y) b ab)
 
   pub is-i : Answers (ArcI h x y) (names-of conflict unit h x y .i)
   unfolding names-of
-  is-i = holds-answers (dec-arc-I h x y)
+  is-i = yes-answers (dec-arc-I h x y)
 
   pub is-d : Answers (ArcD conflict h x y) (names-of conflict unit h x y .d)
   unfolding names-of
-  is-d = holds-answers (dec-arc-D conflict h x y)
+  is-d = yes-answers (dec-arc-D conflict h x y)
 
   pub is-f : Answers (ArcF conflict unit h x y) (names-of conflict unit h x y .f)
   unfolding names-of
-  is-f = holds-answers (dec-arc-F conflict unit h x y)
+  is-f = yes-answers (dec-arc-F conflict unit h x y)
 
   pub is-b : Answers (ArcB conflict unit h x y) (names-of conflict unit h x y .b)
   unfolding names-of
-  is-b = holds-answers (dec-arc-B conflict unit h x y)
+  is-b = yes-answers (dec-arc-B conflict unit h x y)
 
 -- ---- the last column
 
@@ -158,18 +159,18 @@ module _ (history : List ℕ) (n : ℕ) (dep firsts lasts : List ℕ) (hs : Hist
 
   module _ (x y : ℕ) where
     -- no arc where one of the places is beyond the history
-    no-names : (a : TablesOf (take n history) dep firsts lasts) → (x < length (take n history) → y < length (take n history) → ⊥) → names false false false false ≡ names-of (a .conflict) (a .unit) (take n history) x y
-    no-names a beyond = names-are (a .conflict) (a .unit) (take n history) x y
+    none : (a : TablesOf (take n history) dep firsts lasts) → (x < length (take n history) → y < length (take n history) → ⊥) → no-names ≡ names-of (a .conflict) (a .unit) (take n history) x y
+    none a beyond = names-are (a .conflict) (a .unit) (take n history) x y
         (answer-no (λ c. beyond (arc-source (a .conflict) (a .unit) (arc-I c)) (arc-target (a .conflict) (a .unit) (arc-I c))))
         (answer-no (λ c. beyond (arc-source (a .conflict) (a .unit) (arc-D c)) (arc-target (a .conflict) (a .unit) (arc-D c))))
         (answer-no (λ c. beyond (arc-source (a .conflict) (a .unit) (arc-F c)) (arc-target (a .conflict) (a .unit) (arc-F c))))
         (answer-no (λ c. beyond (arc-source (a .conflict) (a .unit) (arc-B c)) (arc-target (a .conflict) (a .unit) (arc-B c))))
 
-    pub source-beyond : n ≤ x → NamesBy (take n history) dep firsts lasts x y (names false false false false)
-    source-beyond l = record { by = λ a. no-names a (λ i j. lt-irrefl n (omega (arith, history-length hs))) }
+    pub source-beyond : (w : ArcNames) → w ≡ no-names → n ≤ x → NamesBy (take n history) dep firsts lasts x y w
+    source-beyond w e l = record { by = λ a. e ∙ none a (λ i j. lt-irrefl n (omega (arith, history-length hs))) }
 
-    pub target-beyond : n ≤ y → NamesBy (take n history) dep firsts lasts x y (names false false false false)
-    target-beyond l = record { by = λ a. no-names a (λ i j. lt-irrefl n (omega (arith, history-length hs))) }
+    pub target-beyond : (w : ArcNames) → w ≡ no-names → n ≤ y → NamesBy (take n history) dep firsts lasts x y w
+    target-beyond w e l = record { by = λ a. e ∙ none a (λ i j. lt-irrefl n (omega (arith, history-length hs))) }
 
     module _ (ix : x < n) (iy : y < n) where
       x-inside : x < length (take n history)

@@ -1,27 +1,23 @@
 -- The arcs from one place to another by name: which of I, D, F and B lead there (document 02, change 5).
 use Prim.Native.Nat.{ℕ, _+_}
-use mathlib.Core.Bool.{Bool, true, false, cond}
+use mathlib.Core.Bool.{Bool, cond}
 use mathlib.Core.List.{List, [], _∷_, _++_}
+use Rattle.theory.proofs.Finite.{is-yes}
 use Rattle.theory.proofs.Decided.{dec-arc-I, dec-arc-D, dec-arc-F, dec-arc-B}
 use Rattle.names.specs.declared.ArcNames.{ArcNames}
-
--- whether what is decided holds
-abbrev pub holds : {P : Type 0} → Dec P → Bool
-holds (yes p) = true
-holds (no n) = false
 
 -- the value of the names, for hosts and in a byte: the sum of I 1, D 2, F 4 and B 8, of those that hold
 abbrev pub names-value : ArcNames → ℕ
 names-value w = cond (w .i) 1 0 + (cond (w .d) 2 0 + (cond (w .f) 4 0 + cond (w .b) 8 0))
 
 module _ (conflict : ℕ → ℕ → ℕ → ℕ → Bool) (unit : ℕ → ℕ → ℕ → ℕ) (h : List ℕ) where
-  -- of each name, whether theory's ArcI, ArcD, ArcF or ArcB holds from x to y
+  -- of each name, whether theory's ArcI, ArcD, ArcF or ArcB holds from x to y: `dec-arc-I h x y` is of type Dec (ArcI h x y), and so on
   unfoldable pub names-of : ℕ → ℕ → ArcNames
   names-of x y = record {
-    i = holds (dec-arc-I h x y);
-    d = holds (dec-arc-D conflict h x y);
-    f = holds (dec-arc-F conflict unit h x y);
-    b = holds (dec-arc-B conflict unit h x y);
+    i = is-yes (dec-arc-I h x y);
+    d = is-yes (dec-arc-D conflict h x y);
+    f = is-yes (dec-arc-F conflict unit h x y);
+    b = is-yes (dec-arc-B conflict unit h x y);
   }
 
   -- the names from each of xs to the one at the same index of ys

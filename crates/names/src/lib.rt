@@ -15,7 +15,7 @@ ghost use Rattle.graph.specs.Catalogue.{base, run-part};
 ghost use Rattle.graph.specs.inner.Tables.{HistoryOf};
 ghost use Rattle.graph.specs.inner.Arcs.{RunRows, TablesOf, Rowed};
 ghost use Rattle.names.specs.Names.{names-value};
-ghost use Rattle.names.specs.inner.Tables.{LastLeads, FirstLed, NamesBy};
+ghost use Rattle.names.specs.inner.Tables.{LastLeads, FirstLed, no-names, NamesBy};
 
 // Which of I, D, F and B lead from one place to another.
 pub struct ArcNames {
@@ -89,6 +89,18 @@ fn first_led(
     bits::marked(dep, graph::place_in(lasts, n, y, r), x)
 }
 
+// No name holds.
+fn no_arcs() -> ArcNames
+    ensures { λ w. ⌜ w ≡ no-names ⌝ }
+{
+    ArcNames {
+        i: false,
+        d: false,
+        f: false,
+        b: false,
+    }
+}
+
 // The names of the arcs from the place x to the place y. What a step depends on in a run is a prefix of that run, so the first and the last place of a
 // unit stand for all of it, and the names take no search. A place beyond the done steps has none.
 pub fn arc_names(
@@ -105,20 +117,10 @@ pub fn arc_names(
     ensures { λ w. ⌜ NamesBy (take n (now (history .entry))) (now (dep .entry)) (now (firsts .entry)) (now (lasts .entry)) x y w ⌝ }
 {
     if x >= n {
-        return ArcNames {
-            i: false,
-            d: false,
-            f: false,
-            b: false,
-        };
+        return no_arcs();
     }
     if y >= n {
-        return ArcNames {
-            i: false,
-            d: false,
-            f: false,
-            b: false,
-        };
+        return no_arcs();
     }
     let r = graph::run_of(history, x);
     let s = graph::run_of(history, y);

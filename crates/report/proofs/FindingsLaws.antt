@@ -4,7 +4,7 @@ use native.Mathlib.Omega.{arith}
 use mathlib.Core.Path.{_≡_, refl, sym, ap, _∙_}
 use mathlib.Core.Bool.{Bool, true, false}
 use mathlib.Core.List.{List, [], _++_, map}
-use lib.ListN.{length, take, drop, length-append, length-drop, length-take}
+use lib.ListN.{length, take, drop, length-append, length-drop, length-take, length-map}
 use lib.Seq.{take-at}
 use lib.Dec.{leb}
 use borrow.Author.Tests.{le-leb}
@@ -23,6 +23,8 @@ use Rattle.book.proofs.Books.{done-within, history-long}
 use Rattle.theory.specs.Answers.{Answers}
 use Rattle.theory.proofs.Answered.{refute}
 use Rattle.names.specs.Names.{names-value, cycle-names}
+use Rattle.names.specs.declared.ArcNames.{ArcNames}
+use Rattle.names.proofs.CycleNames.{named-length}
 use Rattle.judge.specs.Judged.{JudgedAs}
 use Rattle.judge.specs.inner.Names.{EvidenceNamed}
 use Rattle.judge.specs.Front.{first-bytes, front-of}
@@ -32,7 +34,7 @@ use Rattle.judge.specs.declared.Judgement.{Judgement}
 use Rattle.report.specs.Text.{Report, refused-at, text-of}
 use Rattle.report.specs.Reporting.{VerdictOn, ClassesOn, FindingsOn, ReportOn, Reports}
 use Rattle.report.specs.inner.Widths.{number-limit}
-use Rattle.report.specs.inner.Lines.{names-by, verdict-by, findings, is-passed}
+use Rattle.report.specs.inner.Lines.{names-of-value, verdict-by, findings, is-passed}
 use Rattle.report.specs.declared.Classes.{Classes}
 use Rattle.report.proofs.NameLetters.{values-back}
 
@@ -67,10 +69,10 @@ front-short Tangled n order cycle a b = omega (arith, first-short n cycle)
 pub list-short : (v : Verdict) (n : ℕ) (order cycle : List ℕ) {list : List ℕ} → list ≡ front-of v n order cycle → length order ≡ step-limit → length cycle ≡ step-limit → length list ≤ step-limit
 list-short v n order cycle e a b = rw e (front-short v n order cycle a b)
 
-module _ (order order′ cycle cycle′ names names′ : List ℕ) (same : length order′ ≡ length order) (long : step-limit ≤ length order) (room : step-limit ≤ length names′) where
+module _ (order order′ cycle cycle′ values values′ : List ℕ) (same : length order′ ≡ length order) (long : step-limit ≤ length order) where
   verdict-on : (c : Contents) → length (c .history) ≤ step-limit → (v : Verdict) (n : ℕ) → JudgedAs (conflict-of c) (unit-of c) (c .history) order order′ cycle cycle′ v n
-      → EvidenceNamed (conflict-of c) (unit-of c) (c .history) cycle′ names names′ v n
-      → VerdictOn c (verdict-by (is-passed v) (front-of v n order′ cycle′) (front-of v n order′ names′))
+      → EvidenceNamed (conflict-of c) (unit-of c) (c .history) cycle′ values values′ v n
+      → VerdictOn c (verdict-by (is-passed v) (front-of v n order′ cycle′) (front-of v n order′ values′))
   verdict-on c few (JudgeRefused cause place) n j e = absurd j
   verdict-on c few Passed n j e =
       let size : length (c .history) ≡ length (j .taken) = put-size (j .taken) order order′ (length (c .history)) (j .order-is) same (omega arith) in
@@ -79,17 +81,17 @@ module _ (order order′ cycle cycle′ names names′ : List ℕ) (same : lengt
   verdict-on c few Tangled n j e =
       let front : first-bytes n cycle′ ≡ j .places = rw (j .cycle-is) (first-is (j .places) (drop (length (j .places)) cycle) n (j .count-is)) in
       let places : take n cycle′ ≡ j .places = rw (j .cycle-is) (take-at (j .places) (drop (length (j .places)) cycle) n (sym (j .count-is))) in
-      let values : first-bytes n names′ ≡ map names-value (cycle-names (conflict-of c) (unit-of c) (c .history) (j .places)) =
-      rw (le-leb n (length names′) (omega (arith, j .count-is, j .evidence .most))) (rw places at e) in
-      let named : map names-by (first-bytes n names′) ≡ cycle-names (conflict-of c) (unit-of c) (c .history) (j .places) =
-      ap (map names-by) values ∙ values-back (cycle-names (conflict-of c) (unit-of c) (c .history) (j .places)) in
+      let names : List ArcNames = cycle-names (conflict-of c) (unit-of c) (c .history) (j .places) in
+      let written : values′ ≡ map names-value names ++ drop n values = rw places at e in
+      let size : n ≡ length (map names-value names) = j .count-is ∙ sym (length-map names names-value ∙ named-length (conflict-of c) (unit-of c) (c .history) (j .places)) in
+      let named : map names-of-value (first-bytes n values′) ≡ names = rw (written, first-is (map names-value names) (drop n values) n size) (values-back names) in
       (j .not-serializable, rw front (j .evidence), rw front named)
 
   -- a valid book, its classes, and the judgement on it
   pub findings-on : (b : Book) → Valid b → (w : Classes) → ClassesOn (contents-of b) (w .serial) (w .atomic) (w .relserial) (w .conflict)
       → (r : Judgement) → JudgedAs (conflict-of (contents-of b)) (unit-of (contents-of b)) (contents-of b .history) order order′ cycle cycle′ (r .verdict) (r .count)
-      → EvidenceNamed (conflict-of (contents-of b)) (unit-of (contents-of b)) (contents-of b .history) cycle′ names names′ (r .verdict) (r .count)
-      → FindingsOn (contents-of b) (findings (b .done) w (is-passed (r .verdict)) (front-of (r .verdict) (r .count) order′ cycle′) (front-of (r .verdict) (r .count) order′ names′))
+      → EvidenceNamed (conflict-of (contents-of b)) (unit-of (contents-of b)) (contents-of b .history) cycle′ values values′ (r .verdict) (r .count)
+      → FindingsOn (contents-of b) (findings (b .done) w (is-passed (r .verdict)) (front-of (r .verdict) (r .count) order′ cycle′) (front-of (r .verdict) (r .count) order′ values′))
   findings-on b v w f r j e = record {
     done-is = sym (history-long b v);
     classes-are = f;

@@ -1,4 +1,5 @@
--- What `report` promises: the text of what the definitions say of a book's bytes (document 01, "Class tests, evidence, writer, program"; document 02, change 5).
+-- What `report` promises: the text of what the definitions say of a book's bytes (document 01, "Class tests, evidence, writer, program"; document 02,
+-- change 5).
 use Prim.Native.Nat.{ℕ}
 use mathlib.Core.Path.{_≡_}
 use mathlib.Core.Bool.{Bool}

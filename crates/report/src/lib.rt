@@ -16,7 +16,7 @@ ghost use Rattle.report.specs.Letters.{blank};
 ghost use Rattle.report.specs.Text.{tangled, refused-at, accepted-with, text-of, decimal, answer-word, numbers, first-letter, line, done-line, arcs-line};
 ghost use Rattle.report.specs.Reporting.{ClassesOn, Reports};
 ghost use Rattle.report.specs.inner.Widths.{number-digits, number-limit, place-digits, number-width, answer-width, done-width, classes-width, verdict-width, evidence-width, letter-width, arcs-width, refused-width, text-limit};
-ghost use Rattle.report.specs.inner.Lines.{PutWithin, class-lines, is-passed, names-by, value-letters, verdict-by, verdict-lines, findings};
+ghost use Rattle.report.specs.inner.Lines.{PutWithin, class-lines, is-passed, names-of-value, value-letters, verdict-by, verdict-lines, findings};
 
 // How many bytes each line takes at most: its head, its word or numbers, and the line end.
 const DONE_WIDTH: usize = 5 + 3 + 1;
@@ -161,7 +161,7 @@ fn put_list(head: &[u8], list: &[u8], out: &mut [u8]) -> usize
 
 // The first letter of I, D, F and B that holds, of the names with this value.
 fn first_letter(value: u8) -> u8
-    ensures { λ r. ⌜ r ≡ first-letter (names-by value) ⌝ }
+    ensures { λ r. ⌜ r ≡ first-letter (names-of-value value) ⌝ }
 {
     if value % 2 == 1 {
         return b'I';
@@ -178,7 +178,7 @@ fn first_letter(value: u8) -> u8
 // A blank and that letter.
 fn put_letter(value: u8, out: &mut [u8]) -> usize
     requires { ⌜ letter-width ≤ length (now out) ⌝ }
-    ensures { λ r. ⌜ Put (blank ∷ first-letter (names-by value) ∷ []) (now (out .entry)) (now (out .exit)) r ⌝ }
+    ensures { λ r. ⌜ Put (blank ∷ first-letter (names-of-value value) ∷ []) (now (out .entry)) (now (out .exit)) r ⌝ }
 {
     let bytes = [b' ', first_letter(value)];
     put_bytes(&bytes, out)
@@ -202,7 +202,7 @@ fn put_letters(values: &[u8], out: &mut [u8]) -> usize
 // The line of the arcs.
 fn put_arcs(values: &[u8], out: &mut [u8]) -> usize
     requires { ⌜ 4 + letter-width * length (now values) + 1 ≤ length (now out) ⌝ }
-    ensures { λ r. ⌜ PutWithin (4 + letter-width * length (now (values .entry)) + 1) (arcs-line (tangled [] (map names-by (now (values .entry))))) (now (out .entry)) (now (out .exit)) r ⌝ }
+    ensures { λ r. ⌜ PutWithin (4 + letter-width * length (now (values .entry)) + 1) (arcs-line (tangled [] (map names-of-value (now (values .entry))))) (now (out .entry)) (now (out .exit)) r ⌝ }
 {
     let n = put_bytes(b"arcs", &mut out[..]);
     let m = put_letters(values, &mut out[n..]);
@@ -299,11 +299,11 @@ fn put_accepted(b: Book, out: &mut [u8]) -> usize
     let classes = classes_of(b);
     let mut order = [0u8; Book::STEPS];
     let mut cycle = [0u8; Book::STEPS];
-    let mut names = [0u8; Book::STEPS];
-    let judgement = judge::judge_book(b, &mut order, &mut cycle, &mut names);
+    let mut arc_values = [0u8; Book::STEPS];
+    let judgement = judge::judge_book(b, &mut order, &mut cycle, &mut arc_values);
     let verdict = judgement.verdict;
     let list = judge::front(&order, &cycle, verdict, judgement.count);
-    let values = judge::front(&order, &names, verdict, judgement.count);
+    let values = judge::front(&order, &arc_values, verdict, judgement.count);
     put_findings(b.done, classes, is_passed(verdict), list, values, out)
 }
 

@@ -1,26 +1,25 @@
 -- The invariant: the arcs so far have their values.
 use Prim.Native.Nat.{_-_}
-use mathlib.Core.Path.{_≡_}
-use lib.ListN.{length, take}
+use lib.ListN.{take}
 use Rattle.judge.proofs.NamedCycles.{NamedUpTo, named-none, named-more, named-all}
 use borrow.Author.Needs.{needs}
 use Rattle.judge.proofs.name_arcs.Statement.{statement}
 use Rattle.judge.proofs.name_arcs.Tie as tie
 
 abbrev Inv-loop : tie.InvT-loop
-Inv-loop history n catalogue dep firsts lasts cycle len names₀ i₀ names i = (length names ≡ length names₀) × NamedUpTo (take n history) dep firsts lasts cycle len names i
+Inv-loop history n catalogue dep firsts lasts cycle len values₀ i₀ values i = NamedUpTo (take n history) dep firsts lasts cycle len values₀ values i
 
 abbrev μ-loop : tie.MeasureT-loop
-μ-loop history n catalogue dep firsts lasts cycle len names₀ i₀ names i = len - i
+μ-loop history n catalogue dep firsts lasts cycle len values₀ i₀ values i = len - i
 
 loop-holds : tie.Need-loop-holds Inv-loop μ-loop
-loop-holds c = (search needs, search named-none)
+loop-holds c = search named-none
 
 arc-value-requires : tie.Need-arc-value-requires Inv-loop μ-loop
 arc-value-requires c κs = search needs
 
-slice-write-names : tie.Need-slice-write-names Inv-loop μ-loop
-slice-write-names c = search needs
+slice-write-values : tie.Need-slice-write-values Inv-loop μ-loop
+slice-write-values c = search needs
 
 add-i : tie.Need-add-i Inv-loop μ-loop
 add-i c = search needs
@@ -29,7 +28,7 @@ loop-less : tie.Need-loop-less Inv-loop μ-loop
 loop-less c = search needs
 
 loop-again : tie.Need-loop-again Inv-loop μ-loop
-loop-again c = (search needs, search named-more)
+loop-again c = search named-more
 
 same-length : tie.Need-same-length Inv-loop μ-loop
 same-length c = search needs
@@ -45,7 +44,7 @@ name-arcs-spec =
     μ-loop
     loop-holds
     arc-value-requires
-    slice-write-names
+    slice-write-values
     add-i
     loop-less
     loop-again

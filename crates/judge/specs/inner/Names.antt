@@ -2,8 +2,8 @@
 use Prim.Native.Nat.{ℕ, _+_, _≤_, _<_}
 use mathlib.Core.Path.{_≡_}
 use mathlib.Core.Bool.{Bool, cond}
-use mathlib.Core.List.{List, map}
-use lib.ListN.{length, getD, take}
+use mathlib.Core.List.{List, _++_, map}
+use lib.ListN.{length, getD, take, drop}
 use lib.Dec.{ltb}
 use Rattle.book.specs.Format.{step-limit}
 use Rattle.names.specs.Names.{names-value, names-of, after-each, cycle-names}
@@ -20,19 +20,19 @@ pub record After (i len k : ℕ) : Type 0 where
 pub record ValueBy (h dep firsts lasts c : List ℕ) (i v : ℕ) : Type 0 where
   pub by : (a : TablesOf h dep firsts lasts) → v ≡ names-value (names-of (a .conflict) (a .unit) h (getD c i 0) (getD (after-each c) i 0))
 
--- the first bytes of `names` are the values of the names of the arcs of c, one byte an arc
-pub record ValuesBy (h dep firsts lasts c names : List ℕ) : Type 0 where
-  pub by : (a : TablesOf h dep firsts lasts) → take (length c) names ≡ map names-value (cycle-names (a .conflict) (a .unit) h c)
+-- values′ begins with the values of the names of the arcs of c, one byte an arc, and is behind them as `values`
+pub record ValuesBy (h dep firsts lasts c values values′ : List ℕ) : Type 0 where
+  pub by : (a : TablesOf h dep firsts lasts) → values′ ≡ map names-value (cycle-names (a .conflict) (a .unit) h c) ++ drop (length c) values
 
--- the same of the cycle that a verdict counts in its buffer; where there is no cycle, `names` is as before
+-- the same of the cycle that a verdict counts in its buffer; where there is no cycle, nothing changes
 abbrev pub EvidenceNamed : (ℕ → ℕ → ℕ → ℕ → Bool) → (ℕ → ℕ → ℕ → ℕ) → List ℕ → List ℕ → List ℕ → List ℕ → Verdict → ℕ → Type 0
-EvidenceNamed conflict unit h cycle names names′ (Refused cause place) count = names′ ≡ names
-EvidenceNamed conflict unit h cycle names names′ Passed count = names′ ≡ names
-EvidenceNamed conflict unit h cycle names names′ Tangled count = take count names′ ≡ map names-value (cycle-names conflict unit h (take count cycle))
+EvidenceNamed conflict unit h cycle values values′ (Refused cause place) count = values′ ≡ values
+EvidenceNamed conflict unit h cycle values values′ Passed count = values′ ≡ values
+EvidenceNamed conflict unit h cycle values values′ Tangled count = values′ ≡ map names-value (cycle-names conflict unit h (take count cycle)) ++ drop count values
 
 -- of any conflict and units whose tables these are
-pub record EvidenceNamedBy (h dep firsts lasts cycle names names′ : List ℕ) (verdict : Verdict) (count : ℕ) : Type 0 where
-  pub by : (a : TablesOf h dep firsts lasts) → EvidenceNamed (a .conflict) (a .unit) h cycle names names′ verdict count
+pub record EvidenceNamedBy (h dep firsts lasts cycle values values′ : List ℕ) (verdict : Verdict) (count : ℕ) : Type 0 where
+  pub by : (a : TablesOf h dep firsts lasts) → EvidenceNamed (a .conflict) (a .unit) h cycle values values′ verdict count
 
 -- so many bytes are in the buffer, and no more than a history has places
 pub record CountedIn (cycle : List ℕ) (count : ℕ) : Type 0 where

@@ -4,8 +4,14 @@ use borrow.Author.Needs.{needs}
 use Rattle.names.proofs.arc_names.Statement.{statement}
 use Rattle.names.proofs.arc_names.Tie as tie
 
+no-arcs-requires : tie.Need-no-arcs-requires
+no-arcs-requires c κs = search needs
+
 returns : tie.Need-returns
 returns c = search source-beyond
+
+no-arcs-requires-2 : tie.Need-no-arcs-requires-2
+no-arcs-requires-2 c κs = search needs
 
 returns-2 : tie.Need-returns-2
 returns-2 c = search target-beyond
@@ -38,7 +44,9 @@ pub arc-names-spec : {M : Type 1} → statement M
 arc-names-spec =
     tie.close
     (tie.spec
+    no-arcs-requires
     returns
+    no-arcs-requires-2
     returns-2
     run-of-requires
     run-of-requires-2

@@ -1,6 +1,7 @@
 -- The names of arcs, as the tables have them.
 use Prim.Native.Nat.{ℕ, _+_, _*_}
 use mathlib.Core.Path.{_≡_}
+use mathlib.Core.Bool.{false}
 use mathlib.Core.List.{List}
 use lib.ListN.{getD}
 use Rattle.bits.specs.Table.{bit-at}
@@ -18,6 +19,10 @@ pub record LastLeads (dep firsts lasts : List ℕ) (s x y : ℕ) : Type 0 where
 pub record FirstLed (dep firsts lasts : List ℕ) (r x y : ℕ) : Type 0 where
   pub begins : getD firsts (y * run-limit + r) 0 ≡ y
   pub depends : bit-at dep (getD lasts (y * run-limit + r) 0) x ≡ 1
+
+-- no name holds
+abbrev pub no-names : ArcNames
+no-names = record { i = false; d = false; f = false; b = false }
 
 -- w has the names of the arcs from x to y, of any conflict and units whose tables these are
 pub record NamesBy (h dep firsts lasts : List ℕ) (x y : ℕ) (w : ArcNames) : Type 0 where

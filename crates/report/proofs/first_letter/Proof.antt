@@ -1,6 +1,5 @@
 -- The names are tried in the order I, D, F, B.
 use Rattle.report.proofs.NameLetters.{letter-i, letter-d, letter-f, letter-b}
-use borrow.Author.Needs.{needs}
 use Rattle.report.proofs.first_letter.Statement.{statement}
 use Rattle.report.proofs.first_letter.Tie as tie
 

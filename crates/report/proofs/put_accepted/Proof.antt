@@ -65,7 +65,7 @@ returns c =
     let start = classes .before .before in
     text-put _
     (rw (c .before .before .before .before .is-passed .ensures, list .front .ensures .0, values .front2 .ensures .0)
-    (findings-on _ (judged .last .1 .0) _ (judged .last .1 .1 .0) _ (judged .last .1 .1 .1 .0) (judged .kept .1 .0) (omega arith) (omega (arith, judged .kept .1 .1 .1 .0)) (start .args .b) (start .pre .0) (classes .classes-of .result) (classes .classes-of .ensures) (judged .result) (judged .ensures .0) (judged .ensures .1)))
+    (findings-on _ (judged .last .1 .0) _ (judged .last .1 .1 .0) _ (judged .last .1 .1 .1 .0) (judged .kept .1 .0) (omega arith) (start .args .b) (start .pre .0) (classes .classes-of .result) (classes .classes-of .ensures) (judged .result) (judged .ensures .0) (judged .ensures .1)))
     (c .before .before .put-findings .ensures)
 
 pub put-accepted-spec : {M : Type 1} → statement M

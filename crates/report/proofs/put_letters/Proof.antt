@@ -1,5 +1,5 @@
 -- The loop puts the letters in turn, each behind those before.
-use Prim.Native.Nat.{ℕ, _-_, _*_}
+use Prim.Native.Nat.{_-_, _*_}
 use mathlib.Core.List.{[], _∷_}
 use native.Mathlib.Omega.{arith}
 use lib.ListN.{length, getD}
@@ -7,7 +7,7 @@ use Rattle.buffer.proofs.InTurn.{Putting, putting-none, putting-left, putting-n
 use Rattle.report.specs.Letters.{blank}
 use Rattle.report.specs.Text.{first-letter}
 use Rattle.report.specs.inner.Widths.{letter-width}
-use Rattle.report.specs.inner.Lines.{names-by, value-letters}
+use Rattle.report.specs.inner.Lines.{names-of-value, value-letters}
 use Rattle.report.proofs.WithinLaws.{within-limit}
 use Rattle.report.proofs.NameLetters.{letter-parts}
 use borrow.Author.Needs.{needs}
@@ -15,7 +15,7 @@ use Rattle.report.proofs.put_letters.Statement.{statement}
 use Rattle.report.proofs.put_letters.Tie as tie
 
 abbrev Inv-loop : tie.InvT-loop
-Inv-loop values out₀ at₀ i₀ out at i = Putting (value-letters values) (λ k. blank ∷ first-letter (names-by (getD values k 0)) ∷ []) (λ _. letter-width) (length values) out₀ out at i
+Inv-loop values out₀ at₀ i₀ out at i = Putting (value-letters values) (λ k. blank ∷ first-letter (names-of-value (getD values k 0)) ∷ []) (λ _. letter-width) (length values) out₀ out at i
 
 abbrev μ-loop : tie.MeasureT-loop
 μ-loop values out₀ at₀ i₀ out at i = length values - i

@@ -1,7 +1,6 @@
--- The head of either list says the verdict before it.
+-- A passed history has its order and no arcs; a tangled one's lines are `put_tangled`'s.
 use borrow.Author.Needs.{needs}
 use native.Mathlib.Omega.{arith}
-use mathlib.Core.Path.{refl}
 use Rattle.report.proofs.WithinLaws.{within-is}
 use Rattle.report.proofs.TextLaws.{passed-text}
 use Rattle.report.proofs.put_verdict.Statement.{statement}

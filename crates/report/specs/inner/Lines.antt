@@ -23,17 +23,17 @@ is-passed (Refused cause place) = false
 is-passed Passed = true
 is-passed Tangled = false
 
--- the names of a value, as graph's `names-value` has it
-abbrev pub names-by : ℕ → ArcNames
-names-by v = record { i = eqb (v % 2) 1; d = eqb (v / 2 % 2) 1; f = eqb (v / 4 % 2) 1; b = eqb (v / 8 % 2) 1 }
+-- the names with this value, the one that `names-value` has of them
+abbrev pub names-of-value : ℕ → ArcNames
+names-of-value v = record { i = eqb (v % 2) 1; d = eqb (v / 2 % 2) 1; f = eqb (v / 4 % 2) 1; b = eqb (v / 8 % 2) 1 }
 
--- of a list of such values
+-- the letters of the names with these values
 abbrev pub value-letters : List ℕ → List ℕ
-value-letters values = letters (map names-by values)
+value-letters values = letters (map names-of-value values)
 
 abbrev pub verdict-by : Bool → List ℕ → List ℕ → Verdict
 verdict-by true list values = passed list
-verdict-by false list values = tangled list (map names-by values)
+verdict-by false list values = tangled list (map names-of-value values)
 
 abbrev pub verdict-lines : Verdict → List ℕ
 verdict-lines v = verdict-line v ++ (evidence-line v ++ arcs-line v)
