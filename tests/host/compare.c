@@ -281,12 +281,13 @@ static void compare_arc(const uint8_t *book, size_t len, const plain_book *b, pl
 
 /* Compares the arcs of the judge's cycle, the one back to the first place last; in a short history, those from each place to each, the first place beyond
    the done steps included. */
-static void compare_arcs(const uint8_t *book, size_t len, const plain_book *b, plain_refusal r, const uint8_t *cycle, size_t count) {
+static void compare_arcs(const uint8_t *book, size_t len, const plain_book *b, const uint8_t *cycle, size_t count) {
+    plain_refusal accepted = {0};
     for (size_t i = 0; i < count; i++)
-        compare_arc(book, len, b, r, cycle[i], cycle[(i + 1) % count]);
+        compare_arc(book, len, b, accepted, cycle[i], cycle[(i + 1) % count]);
     for (size_t x = 0; b->n <= SHORT && x <= (size_t)b->n; x++)
         for (size_t y = 0; y <= (size_t)b->n; y++)
-            compare_arc(book, len, b, r, x, y);
+            compare_arc(book, len, b, accepted, x, y);
 }
 
 void compare_book(source *s, const uint8_t *book, size_t len, const plain_book *b, plain_refusal r) {
@@ -315,7 +316,7 @@ void compare_book(source *s, const uint8_t *book, size_t len, const plain_book *
     if (!r.number && !passed)
         compare_answer(deck_check_cycle(book, len, found, (size_t)count), r, 1, "cycle check of the judge's cycle");
     if (!r.number)
-        compare_arcs(book, len, b, r, found, passed ? 0 : (size_t)count);
+        compare_arcs(book, len, b, found, passed ? 0 : (size_t)count);
     compare_writer(s, book, len, r);
     compare_gate(s, book, len, b, r);
     if (r.number)

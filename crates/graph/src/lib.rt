@@ -10,7 +10,7 @@ ghost use Prim.Native.Nat.{_+_, _*_, _<_, _≤_};
 ghost use lib.ListN.{length, take};
 ghost use Rattle.theory.specs.Deck.{listed};
 ghost use Rattle.theory.specs.Relative.{Depends};
-ghost use Rattle.theory.specs.Graph.{FirstOf, LastOf, Arc};
+ghost use Rattle.theory.specs.Graph.{FirstOf, LastOf};
 ghost use Rattle.theory.specs.Lists.{sum};
 ghost use Rattle.book.specs.Format.{kind-limit, run-limit, step-limit};
 ghost use Rattle.book.specs.Book.{code-limit, as-step, pairs-of, Valid, contents-of};

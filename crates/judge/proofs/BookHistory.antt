@@ -4,10 +4,8 @@ use mathlib.Core.List.{List}
 use lib.ListN.{take}
 use lib.Dec.{eqb}
 use Rattle.theory.specs.Relative.{RelativelySerializable}
-use Rattle.theory.specs.Graph.{Arc}
 use Rattle.theory.proofs.DeckLaws.{lawful}
 use Rattle.theory.specs.Answers.{Answers}
-use Rattle.graph.specs.Marks.{Marks}
 use Rattle.graph.specs.inner.Arcs.{TablesBy, TablesOf, ArcRows}
 use Rattle.graph.proofs.BookTables.{book-history, book-some-tables, book-arcs}
 use Rattle.book.specs.Meaning.{conflict-of, unit-of}

@@ -43,15 +43,8 @@ is-passed-requires c κs = search needs
 
 put-findings-requires : tie.Need-put-findings-requires
 put-findings-requires c κs =
-    let values = c .before .before in
-    let list = values .before .before .before in
-    let judged = list .before .before .before .before .before .before .judge-book in
-    let start = list .before .before .before .before .before .before .before .before .before .before .before .before in (
-      few-done (start .args .b) (start .pre .0),
-      list-short (judged .result .verdict) (judged .result .count) (judged .last .1 .0) (judged .last .1 .1 .0) (list .front .ensures .0) (judged .kept .1 .0) (judged .kept .1 .1 .0),
-      search list-short,
-      start .pre .1,
-    )
+    let start = c .before .before .before .before .before .before .before .before .before .before .before .before .before .before .before .before .before in
+    (few-done (start .args .b) (start .pre .0), search list-short, search list-short, start .pre .1)
 
 same-length : tie.Need-same-length
 same-length c = search needs
