@@ -423,6 +423,7 @@ int plain_order_check(const plain_book *b, const uint8_t *list, size_t len) {
     return slow_relserial(b, &h, 0);
 }
 
+/* whether q is of another run than p and depends on it */
 static int d_arc(const slow *h, int p, int q) { return h->run[p] != h->run[q] && h->depends[p][q]; }
 
 /* whether x is the last step of p's unit, as seen by o */

@@ -6,7 +6,8 @@ use mathlib.Core.Path.{_≡_, refl, sym, ap, _∙_, subst}
 use mathlib.Core.Logic.{_⊎_, inl, inr, _≢_, _↔_}
 use mathlib.Core.Bool.{Bool, true, false}
 use mathlib.Core.List.{List, [], _∷_, _++_, map, append-assoc}
-use lib.ListN.{length, getD, length-map}
+use lib.ListN.{length, getD, take, drop, length-map}
+use lib.Seq.{take-at}
 use Rattle.theory.specs.Graph.{ArcI, ArcD, ArcF, ArcB, arc-I, arc-D, arc-F, arc-B, Cycle}
 use Rattle.theory.specs.Rows.{Is}
 use Rattle.theory.proofs.Decided.{arc-source, arc-target}
@@ -15,6 +16,7 @@ use Rattle.book.specs.Numbers.{Numbers}
 use Rattle.book.specs.Meaning.{conflict-of, unit-of}
 use Rattle.names.specs.Names.{names-value, cycle-names}
 use Rattle.names.specs.declared.ArcNames.{ArcNames}
+use Rattle.names.specs.inner.Tables.{no-names}
 use Rattle.names.proofs.NameLaws.{is-i, is-d, is-f, is-b}
 use Rattle.names.proofs.CycleNames.{named-length, named-next, named-back}
 use Rattle.classes.specs.Tested.{tested-numbers, YesWhere, OutcomeTested, TestedAs}
@@ -24,9 +26,11 @@ use Rattle.evidence.specs.Named.{named-numbers, OutcomeNamed, NamedAs}
 use Rattle.evidence.specs.declared.Named.{Named}
 use Rattle.evidence.specs.declared.Named.the-variants.{Arcs, Refused as NotNamed}
 use Rattle.report.specs.Text.{Findings, Report, accepted-with, Verdict, tangled, first-letter, done-line, serial-line, atomic-line, relserial-line, conflict-line, verdict-line, evidence-line, arcs-line, text-of}
-use Rattle.report.specs.Reporting.{VerdictOn, ReportOn}
+use Rattle.report.specs.Reporting.{VerdictOn, ReportOn, Reports}
+use Rattle.capi.specs.Calls.{TestCall, NameCall}
+use Rattle.capi.specs.declared.Answered.{Answered}
 use Rattle.report.proofs.FindingsLaws.{answer-is}
-use Rattle.report.proofs.NameLetters.{each-map}
+use Rattle.buffer.proofs.EachLaws.{each-map}
 use Rattle.claims.specs.Demands.{answered-numbers}
 use Rattle.claims.specs.ArcsByName.{arcs-from, ArcFrom, AllThatHold, FirstHolds, letter-I, letter-D, letter-F, letter-B, Lettered, cycle-text, arcs-text, ArcsUnder, ArcsByName}
 
@@ -123,6 +127,28 @@ module _ (s : List ℕ) (x y : ℕ) (r : Named) (t : Tested) (w : NamedAs (arcs-
           let z = accepted-numbers c t a in
           (ap (λ (k : Named). named-numbers k .number) n ∙ sym (z .0), ap (λ (k : Named). named-numbers k .place) n ∙ sym (z .1))
 
+-- the same for C
+module _ (s : List ℕ) (x y : ℕ) (r t : Answered) (w : NameCall (arcs-from x y) s r) (v : TestCall (ArcFrom x y) s t) where
+  named : answered-numbers r ≡ named-numbers (w .named)
+  named = ap answered-numbers (w .numbers)
+
+  tested : answered-numbers t ≡ tested-numbers (v .tested)
+  tested = ap answered-numbers (v .numbers)
+
+  yes-is-1 : (a : Tested) → (a ≡ Yes) ↔ (tested-numbers a .value ≡ 1)
+  yes-is-1 (NotTested cause at) = (λ e. absurd (let q : _≡_ {A = ℕ} 0 1 = cc in omega arith), λ e. absurd (omega arith))
+  yes-is-1 Yes = (λ e. refl, λ e. refl)
+  yes-is-1 No = (λ e. absurd (let q : _≡_ {A = ℕ} 0 1 = cc in omega arith), λ e. absurd (omega arith))
+
+  deck-yes-before : (answered-numbers t .value ≡ 1) ↔ (answered-numbers r .value ≢ 0)
+  deck-yes-before = rw (named, tested) (
+    λ e. yes-before s x y (w .named) (v .tested) (w .promise) (v .promise) .0 (yes-is-1 (v .tested) .1 e),
+    λ e. yes-is-1 (v .tested) .0 (yes-before s x y (w .named) (v .tested) (w .promise) (v .promise) .1 e),
+  )
+
+  deck-refused-before : (answered-numbers r .number ≡ answered-numbers t .number) × (answered-numbers r .place ≡ answered-numbers t .place)
+  deck-refused-before = rw (named, tested) (refused-before s x y (w .named) (v .tested) (w .promise) (v .promise))
+
 -- ---- beyond the done steps
 
 no-arc : (c : Contents) (x y : ℕ) → (length (c .history) ≤ x) ⊎ (length (c .history) ≤ y) → ¬ ArcFrom x y c
@@ -151,19 +177,16 @@ module _ (c : Contents) (cycle : List ℕ) (k : Cycle (conflict-of c) (unit-of c
   abbrev names : List ArcNames
   names = cycle-names (conflict-of c) (unit-of c) (c .history) cycle
 
-  none : ArcNames
-  none = record { i = false; d = false; f = false; b = false }
-
-  first-at : (i y : ℕ) → i < length cycle → getD names i none ≡ arcs-from (getD cycle i 0) y c → ArcFrom (getD cycle i 0) y c → FirstHolds c (getD cycle i 0) y (getD (map first-letter names) i 0)
+  first-at : (i y : ℕ) → i < length cycle → getD names i no-names ≡ arcs-from (getD cycle i 0) y c → ArcFrom (getD cycle i 0) y c → FirstHolds c (getD cycle i 0) y (getD (map first-letter names) i 0)
   first-at i y l z a =
-      let e : getD (map first-letter names) i 0 ≡ first-letter (arcs-from (getD cycle i 0) y c) = letter-at names i none (rw (named-length (conflict-of c) (unit-of c) (c .history) cycle) l) ∙ ap first-letter z in
+      let e : getD (map first-letter names) i 0 ≡ first-letter (arcs-from (getD cycle i 0) y c) = letter-at names i no-names (rw (named-length (conflict-of c) (unit-of c) (c .history) cycle) l) ∙ ap first-letter z in
       subst (FirstHolds c (getD cycle i 0) y) (sym e) (first c (getD cycle i 0) y (arcs-from (getD cycle i 0) y c) (holding c (getD cycle i 0) y) a)
 
   cycle-lettered : Lettered c cycle (map first-letter names)
   cycle-lettered = record {
     many = length-map names first-letter ∙ named-length (conflict-of c) (unit-of c) (c .history) cycle;
-    next = λ i l. first-at i (getD cycle (suc i) 0) (omega arith) (named-next (conflict-of c) (unit-of c) (c .history) cycle i none l) (k .next i l);
-    back = first-at (length cycle - 1) (getD cycle 0 0) (omega (arith, k .least)) (named-back (conflict-of c) (unit-of c) (c .history) cycle (length cycle - 1) none (omega (arith, k .least))) (k .back);
+    next = λ i l. first-at i (getD cycle (suc i) 0) (omega arith) (named-next (conflict-of c) (unit-of c) (c .history) cycle i no-names l) (k .next i l);
+    back = first-at (length cycle - 1) (getD cycle 0 0) (omega (arith, k .least)) (named-back (conflict-of c) (unit-of c) (c .history) cycle (length cycle - 1) no-names (omega (arith, k .least))) (k .back);
   }
 
 -- ---- the text
@@ -183,16 +206,17 @@ text-ends f cycle names e =
     lines : (v : Verdict) → v ≡ tangled cycle names → evidence-line v ++ arcs-line v ≡ cycle-text cycle ++ arcs-text (map first-letter names)
     lines v q = rw (q, each-map (λ (x : ℕ). 0x20 ∷ x ∷ []) first-letter names)
 
-text-lettered : (s : List ℕ) (c : Contents) → read s ≡ accepted c → (v : Report) → ReportOn (read s) v → (f : Findings) (cycle : List ℕ) (names : List ArcNames) → v ≡ accepted-with f
-    → f .verdict ≡ tangled cycle names → ArcsUnder c cycle (text-of (accepted-with f))
-text-lettered s c e v on f cycle names q u =
-    let w : ReportOn (accepted c) (accepted-with f) = subst (λ (o : Outcome). ReportOn o (accepted-with f)) e (subst (ReportOn (read s)) q on) in
+text-lettered : (s : List ℕ) (c : Contents) → read s ≡ accepted c → (text text′ : List ℕ) (n : ℕ) (r : Reports (read s) text text′ n) → (f : Findings) (cycle : List ℕ) (names : List ArcNames)
+    → r .report ≡ accepted-with f → f .verdict ≡ tangled cycle names → ArcsUnder c cycle (take n text′)
+text-lettered s c e text text′ n r f cycle names q u =
+    let w : ReportOn (accepted c) (accepted-with f) = subst (λ (o : Outcome). ReportOn o (accepted-with f)) e (subst (ReportOn (read s)) q (r .report-on)) in
     let x : VerdictOn c (tangled cycle names) = subst (VerdictOn c) u (w .verdict-is) in
+    let front : take n text′ ≡ text-of (r .report) = ap (take n) (r .put .bytes) ∙ take-at (text-of (r .report)) (drop (length (text-of (r .report))) text) n (sym (r .put .count)) in
     record {
       letters = map first-letter names;
       lettered = subst (λ (ws : List ArcNames). Lettered c cycle (map first-letter ws)) (sym (x .2)) (cycle-lettered c cycle (x .1));
       above = above f;
-      ends = text-ends f cycle names u;
+      ends = front ∙ ap text-of q ∙ text-ends f cycle names u;
     }
 
 -- ---- the statement
@@ -207,6 +231,9 @@ arcs-by-name = record {
   );
   yes-before = yes-before;
   refused-before = refused-before;
+  deck-yes-before = deck-yes-before;
+  deck-refused-before = deck-refused-before;
   beyond = λ s c e x y r w l. ap (λ (z : Named). named-numbers z .value) (named-of (arcs-from x y) s c e r w) ∙ none-beyond c x y l;
-  lettered = λ s c e text text′ n w f cycle names q u. text-lettered s c e (w .report) (w .report-on) f cycle names q u;
+  deck-beyond = λ s c e x y r w l. ap (λ (z : Answered). answered-numbers z .value) (w .numbers) ∙ ap (λ (z : Named). named-numbers z .value) (named-of (arcs-from x y) s c e (w .named) (w .promise)) ∙ none-beyond c x y l;
+  lettered = text-lettered;
 }

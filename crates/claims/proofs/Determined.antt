@@ -226,7 +226,7 @@ one-verdict c (passed l) (tangled m ns) w w′ = absurd (w′ .0 (record { order
 one-verdict c (tangled l ns) (passed m) w w′ = absurd (w .0 (record { order = m; evidence = w′ .0 }))
 one-verdict c (tangled l ns) (tangled m ks) w w′ = refl
 
--- findings with these verdicts in place of their own
+-- a report with these findings and this verdict in place of theirs
 with-verdict : Findings → ReportVerdict → Report
 with-verdict v x = accepted-with (record { done = v .done; serial = v .serial; atomic = v .atomic; relserial = v .relserial; conflict = v .conflict; verdict = x })
 

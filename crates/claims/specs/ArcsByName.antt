@@ -1,10 +1,10 @@
 -- Arcs by name (document 02, change 5), as statements about every answer that meets the calls' contracts. That the cycle check and the judge give the
--- answers that they gave needs no statement: their contracts are the same.
+-- answers that they gave has no statement here: their contracts are the same, and fix every answer but which cycle the judge returns.
 use Prim.Native.Nat.{ℕ, suc, _-_, _≤_, _<_}
 use mathlib.Core.Path.{_≡_}
 use mathlib.Core.Logic.{_⊎_, _≢_, _↔_}
 use mathlib.Core.List.{List, [], _∷_, _++_}
-use lib.ListN.{length, getD}
+use lib.ListN.{length, getD, take}
 use Rattle.buffer.specs.Each.{each}
 use Rattle.theory.specs.Graph.{ArcI, ArcD, ArcF, ArcB, Arc}
 use Rattle.theory.specs.Rows.{Is}
@@ -19,9 +19,9 @@ use Rattle.classes.specs.declared.Tested.the-variants.{Yes}
 use Rattle.evidence.specs.Named.{named-numbers, NamedAs}
 use Rattle.evidence.specs.declared.Named.{Named}
 use Rattle.evidence.specs.declared.Named.the-variants.{Arcs}
-use Rattle.report.specs.Text.{Findings, accepted-with, tangled, decimal, text-of}
+use Rattle.report.specs.Text.{Findings, accepted-with, tangled, decimal}
 use Rattle.report.specs.Reporting.{Reports}
-use Rattle.capi.specs.Calls.{NameCall}
+use Rattle.capi.specs.Calls.{TestCall, NameCall}
 use Rattle.capi.specs.declared.Answered.{Answered}
 use Rattle.claims.specs.Demands.{answered-numbers}
 
@@ -81,14 +81,19 @@ pub record ArcsByName : Type 0 where
   -- for C by the sum of I 1, D 2, F 4 and B 8,
   pub deck-named : (s : List ℕ) (c : Contents) → read s ≡ accepted c → (x y : ℕ) (r : Answered) → NameCall (arcs-from x y) s r
       → (w : ArcNames) × (answered-numbers r ≡ value-of (names-value w)) × AllThatHold c x y w
-  -- where it said only yes or no: it said yes exactly where it now has a name, and was refused with the same number and place;
+  -- where it said only yes or no: it said yes exactly where it now has a name, and the book was refused with the same number and place;
   pub yes-before : (s : List ℕ) (x y : ℕ) (r : Named) (t : Tested) → NamedAs (arcs-from x y) s r → TestedAs (ArcFrom x y) s t → (t ≡ Yes) ↔ (named-numbers r .value ≢ 0)
   pub refused-before : (s : List ℕ) (x y : ℕ) (r : Named) (t : Tested) → NamedAs (arcs-from x y) s r → TestedAs (ArcFrom x y) s t
       → (named-numbers r .number ≡ tested-numbers t .number) × (named-numbers r .place ≡ tested-numbers t .place)
+  pub deck-yes-before : (s : List ℕ) (x y : ℕ) (r t : Answered) → NameCall (arcs-from x y) s r → TestCall (ArcFrom x y) s t → (answered-numbers t .value ≡ 1) ↔ (answered-numbers r .value ≢ 0)
+  pub deck-refused-before : (s : List ℕ) (x y : ℕ) (r t : Answered) → NameCall (arcs-from x y) s r → TestCall (ArcFrom x y) s t
+      → (answered-numbers r .number ≡ answered-numbers t .number) × (answered-numbers r .place ≡ answered-numbers t .place)
   -- a place beyond the done steps has none.
   pub beyond : (s : List ℕ) (c : Contents) → read s ≡ accepted c → (x y : ℕ) (r : Named) → NamedAs (arcs-from x y) s r
       → (length (c .history) ≤ x) ⊎ (length (c .history) ≤ y) → named-numbers r .value ≡ 0
+  pub deck-beyond : (s : List ℕ) (c : Contents) → read s ≡ accepted c → (x y : ℕ) (r : Answered) → NameCall (arcs-from x y) s r
+      → (length (c .history) ≤ x) ⊎ (length (c .history) ≤ y) → answered-numbers r .value ≡ 0
   -- Under the cycle the program adds a line "arcs" with, for each arc in turn, the one back to the first place last, a blank and the first of I, D, F, B
   -- that holds.
   pub lettered : (s : List ℕ) (c : Contents) → read s ≡ accepted c → (text text′ : List ℕ) (n : ℕ) (w : Reports (read s) text text′ n)
-      → (f : Findings) (cycle : List ℕ) (names : List ArcNames) → w .report ≡ accepted-with f → f .verdict ≡ tangled cycle names → ArcsUnder c cycle (text-of (accepted-with f))
+      → (f : Findings) (cycle : List ℕ) (names : List ArcNames) → w .report ≡ accepted-with f → f .verdict ≡ tangled cycle names → ArcsUnder c cycle (take n text′)

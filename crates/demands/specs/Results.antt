@@ -134,4 +134,4 @@ pub record ArcsNamed (s : List ℕ) (from to : ℕ) (r : Answered) : Type 0 wher
 pub record TextLettered (s before after : List ℕ) (n : ℕ) : Type 0 where
   pub promised : Reports (read s) before after n
   pub lettered : (c : Contents) → read s ≡ accepted c → (w : Findings) (cycle : List ℕ) (names : List ArcNames) → promised .report ≡ accepted-with w → w .verdict ≡ tangled cycle names
-      → ArcsUnder c cycle (text-of (accepted-with w))
+      → ArcsUnder c cycle (take n after)

@@ -11,7 +11,7 @@
 --   UnitRows        the first and the last place of each unit, from the step next to it
 --   ArcMarks        the arc rows, by run and place
 -- `read_step`: Catalogue, DependenceRows. `dependences`: Steps, with BookTables. `units`: Numbering, UnitRows.
--- `arcs`: ArcMarks over both, with UnitSteps.
+-- `tables`: both, with BookTables. `arcs`: ArcMarks over both, with UnitSteps.
 pub mod Flags
 pub mod Counting
 pub mod Rows

@@ -1,4 +1,4 @@
-// The judge: the order that takes the smallest ready place at each turn, or a cycle, in buffers that the caller lends.
+// The judge: the order that takes the smallest ready place at each turn, or a cycle and the names of its arcs, in buffers that the caller lends.
 use bits::Found;
 use bits::Row;
 use bits::Table;

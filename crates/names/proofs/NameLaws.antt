@@ -41,12 +41,12 @@ use Rattle.graph.proofs.ArcMarks.{rowed}
 -- ---- the names that hold
 
 -- an answer is what a decision says
-answer-yes : {P : Type 0} (d : Dec P) (t : Bool) → Answers P t → t ≡ is-yes d
-answer-yes (yes p) t a = a .complete p
-answer-yes (no n) true a = absurd (n (a .sound refl))
-answer-yes (no n) false a = refl
+answer-decided : {P : Type 0} (d : Dec P) (t : Bool) → Answers P t → t ≡ is-yes d
+answer-decided (yes p) t a = a .complete p
+answer-decided (no n) true a = absurd (n (a .sound refl))
+answer-decided (no n) false a = refl
 
-pub yes-answers : {P : Type 0} (d : Dec P) → Answers P (is-yes d)
+yes-answers : {P : Type 0} (d : Dec P) → Answers P (is-yes d)
 yes-answers (yes p) = record { sound = λ e. p; complete = λ p. refl }
 yes-answers (no n) = answer-no n
 
@@ -57,7 +57,7 @@ module _ (conflict : ℕ → ℕ → ℕ → ℕ → Bool) (unit : ℕ → ℕ �
   names-are : {i d f b : Bool} → Answers (ArcI h x y) i → Answers (ArcD conflict h x y) d → Answers (ArcF conflict unit h x y) f → Answers (ArcB conflict unit h x y) b
       → names i d f b ≡ names-of conflict unit h x y
   unfolding names-of
-  names-are {i} {d} {f} {b} ai ad af ab = rw (answer-yes (dec-arc-I h x y) i ai, answer-yes (dec-arc-D conflict h x y) d ad, answer-yes (dec-arc-F conflict unit h x y) f af, answer-yes (dec-arc-B conflict unit h x y) b ab)
+  names-are {i} {d} {f} {b} ai ad af ab = rw (answer-decided (dec-arc-I h x y) i ai, answer-decided (dec-arc-D conflict h x y) d ad, answer-decided (dec-arc-F conflict unit h x y) f af, answer-decided (dec-arc-B conflict unit h x y) b ab)
 
   pub is-i : Answers (ArcI h x y) (names-of conflict unit h x y .i)
   unfolding names-of

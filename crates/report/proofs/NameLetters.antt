@@ -7,8 +7,8 @@ use mathlib.Core.List.{List, [], _∷_, _++_, map}
 use lib.ListN.{length, getD}
 use borrow.Author.Tests.{eq-eqb, ne-eqb}
 use Rattle.buffer.specs.Put.{Put}
-use Rattle.buffer.specs.Each.{each}
 use Rattle.buffer.proofs.PutLaws.{put-is}
+use Rattle.buffer.proofs.EachLaws.{each-map}
 use Rattle.buffer.proofs.InTurn.{parts, each-parts}
 use Rattle.names.specs.Names.{names-value}
 use Rattle.names.specs.declared.ArcNames.{ArcNames}
@@ -61,10 +61,6 @@ pub letter-put : (x y : ℕ) {before after : List ℕ} {r : ℕ} → Put (blank 
 letter-put x y p e = put-is p (ap (λ (z : ℕ). blank ∷ z ∷ []) e)
 
 -- ---- the letters, one after another
-
-pub each-map : {A C : Type 0} (f : C → List ℕ) (g : A → C) (xs : List A) → each f (map g xs) ≡ each (λ x. f (g x)) xs
-each-map f g [] = refl
-each-map f g (x ∷ xs) = ap (λ (l : List ℕ). f (g x) ++ l) (each-map f g xs)
 
 pub letter-parts : (values : List ℕ) → value-letters values ≡ parts (λ k. blank ∷ first-letter (names-of-value (getD values k 0)) ∷ []) (length values)
 letter-parts values = each-map (λ w. blank ∷ first-letter w ∷ []) names-of-value values ∙ each-parts (λ v. blank ∷ first-letter (names-of-value v) ∷ []) values 0

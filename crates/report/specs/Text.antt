@@ -47,7 +47,7 @@ answer-word false = n ∷ o ∷ []
 abbrev pub numbers : List ℕ → List ℕ
 numbers = each (λ x. blank ∷ decimal x)
 
--- the first of I, D, F and B that holds; of an arc one does
+-- the first of I, D, F and B that holds; where none does, B, and no arc of a cycle is so
 abbrev pub first-letter : ArcNames → ℕ
 first-letter w = cond (w .i) I (cond (w .d) D (cond (w .f) F B))
 

@@ -303,6 +303,7 @@ fn put_accepted(b: Book, out: &mut [u8]) -> usize
     let judgement = judge::judge_book(b, &mut order, &mut cycle, &mut arc_values);
     let verdict = judgement.verdict;
     let list = judge::front(&order, &cycle, verdict, judgement.count);
+    // Where passed these are the order's again, and not printed.
     let values = judge::front(&order, &arc_values, verdict, judgement.count);
     put_findings(b.done, classes, is_passed(verdict), list, values, out)
 }

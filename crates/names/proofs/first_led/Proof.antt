@@ -1,4 +1,4 @@
--- Both are read off the tables of units.
+-- The unit's first and last place are read off its tables, whether the last depends on x off the dependence table.
 use Rattle.names.proofs.NameLaws.{not-first, first-led-by}
 use borrow.Author.Needs.{needs}
 use Rattle.names.proofs.first_led.Statement.{statement}

@@ -1,4 +1,4 @@
--- Both are read off the tables of units.
+-- The unit's first and last place are read off its tables, whether y depends on the first off the dependence table.
 use Rattle.names.proofs.NameLaws.{not-last, last-leads-by}
 use borrow.Author.Needs.{needs}
 use Rattle.names.proofs.last_leads.Statement.{statement}
