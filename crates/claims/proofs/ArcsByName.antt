@@ -25,7 +25,7 @@ use Rattle.classes.specs.declared.Tested.the-variants.{Yes, No, Refused as NotT
 use Rattle.evidence.specs.Named.{named-numbers, OutcomeNamed, NamedAs}
 use Rattle.evidence.specs.declared.Named.{Named}
 use Rattle.evidence.specs.declared.Named.the-variants.{Arcs, Refused as NotNamed}
-use Rattle.report.specs.Text.{Findings, Report, accepted-with, Verdict, tangled, first-letter, done-line, serial-line, atomic-line, relserial-line, conflict-line, verdict-line, evidence-line, arcs-line, text-of}
+use Rattle.report.specs.Text.{Findings, accepted-with, Verdict, tangled, first-letter, done-line, serial-line, atomic-line, relserial-line, conflict-line, verdict-line, evidence-line, arcs-line, text-of}
 use Rattle.report.specs.Reporting.{VerdictOn, ReportOn, Reports}
 use Rattle.capi.specs.Calls.{TestCall, NameCall}
 use Rattle.capi.specs.declared.Answered.{Answered}
