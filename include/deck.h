@@ -20,9 +20,10 @@ enum {
     DECK_BOOK = 16384, /* a book has at most so many bytes */
     DECK_KINDS = 16, /* kinds are below this */
     DECK_POSITIONS = 65536, /* positions are below this */
-    DECK_HOME = 65535, /* a step at this position, a homing step, has the same position as any other */
+    DECK_TOUCHES = DECK_KINDS * DECK_POSITIONS, /* codes of touches, each a kind and a position, are below this; a single step (53) has one, a transfer two */
+    DECK_HOME = 65535, /* a touch at this position, which homes, has the same position as any other */
     DECK_RUNS = 16, /* the most runs */
-    DECK_RUN_STEPS = 32, /* the most steps in a run */
+    DECK_RUN_STEPS = 32, /* the most steps in a run, a transfer being one */
     DECK_STEPS = 128, /* the most steps in all */
     DECK_BUFFER = DECK_STEPS /* the judge's buffers have at least so many bytes */
 };
@@ -32,7 +33,7 @@ enum deck_number {
     DECK_BOOK_TOO_LONG = 1, /* book over DECK_BOOK bytes */
     DECK_NO_COMMAND = 2, /* byte that is no command */
     DECK_ENDS_EARLY = 3, /* book ends before 45 or inside operands */
-    DECK_OUT_OF_ORDER = 4, /* command after a later group, or 53 before any 52 */
+    DECK_OUT_OF_ORDER = 4, /* command after a later group, or 53 or 54 before any 52 */
     DECK_WRONG_KIND = 5, /* kind above 15, or a above b */
     DECK_NOT_RISING = 6, /* pair or triple not above the one before */
     DECK_WRONG_RUN = 7, /* 52 not the next run; 42 or 48 a run not declared; 42 a run as seen by itself */
@@ -106,15 +107,19 @@ deck_answer deck_write(const uint8_t *book, size_t book_len, uint8_t *out, size_
 
 /* A gate, as deck_open hands it back. It holds no pointer, so a copy of it is a gate of its own. Programs may read it; only the calls below may write
    to it. A call refuses it by 26, and changes nothing, unless its tables are in range and agree with one another: `pairs`, `cuts` and `withdrawn`
-   hold 0 and 1 alone; there are at most DECK_RUNS runs, DECK_RUN_STEPS steps in a run and DECK_STEPS in all, of kinds below DECK_KINDS; `total` is
-   the sum of `lengths`; each of `counts` is how often the kept list has the run, at most its length, and `kept_count` is their sum; `lengths`,
-   `steps` and `kept` are 0 behind the runs, the steps and the kept steps. So is every record that deck_open hands back, and that
-   a call leaves of such a one. Any other that is so is taken as the gate of the book, the kept list and the withdrawn runs that it holds. */
+   hold 0 and 1 alone; there are at most DECK_RUNS runs, DECK_RUN_STEPS steps in a run and DECK_STEPS in all; each of `steps` is the code of a step;
+   `total` is the sum of `lengths`; each of `counts` is how often the kept list has the run, at most its length, and `kept_count` is their sum;
+   `lengths`, `steps` and `kept` are 0 behind the runs, the steps and the kept steps. So is every record that deck_open hands back, and that
+   a call leaves of such a one. Any other that is so is taken as the gate of the book, the kept list and the withdrawn runs that it holds.
+
+   The code of a touch is kind * DECK_POSITIONS + position, below DECK_TOUCHES. That of a single step is the code of its touch; that of a transfer is
+   (t2 + 1) * (uint64_t)DECK_TOUCHES + t1, with the codes t1 and t2 of its first and its second touch. So a code below DECK_TOUCHES is of a single step,
+   one from there on of a transfer, and each is below DECK_TOUCHES * (DECK_TOUCHES + 1), in 64 bits. */
 typedef struct {
     uint8_t pairs[DECK_KINDS * DECK_KINDS]; /* 1 at a * DECK_KINDS + b for each listed pair of kinds a, b */
     uint8_t cuts[DECK_RUNS * DECK_RUN_STEPS * DECK_RUNS]; /* 1 at (r * DECK_RUN_STEPS + j) * DECK_RUNS + o for each cut in run r after its j-th step
                                                              as seen by run o */
-    uint32_t steps[DECK_STEPS]; /* run after run, each step's kind * DECK_POSITIONS + position */
+    uint64_t steps[DECK_STEPS]; /* run after run, the code of each step */
     uint8_t lengths[DECK_RUNS]; /* the number of steps of each run */
     uint8_t counts[DECK_RUNS]; /* the number of kept steps of each run */
     uint8_t kept[DECK_STEPS]; /* the kept list: run numbers, kept_count of them */
@@ -135,7 +140,7 @@ static_assert
 #else
 _Static_assert
 #endif
-    (sizeof(deck_gate) == 9160 && offsetof(deck_gate, withdrawn) == 9144 && sizeof(deck_opened) == 9176, "no padding");
+    (sizeof(deck_gate) == 9672 && offsetof(deck_gate, withdrawn) == 9656 && sizeof(deck_opened) == 9688, "no padding");
 
 /* Opens a gate over the book, whose own history plays no part: no step is kept, no run withdrawn. Refused as the book is. */
 deck_opened deck_open(const uint8_t *book, size_t book_len);

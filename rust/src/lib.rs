@@ -6,11 +6,11 @@ use std::fmt;
 pub const BOOK: usize = 16384;
 /// Kinds are below this.
 pub const KINDS: usize = 16;
-/// A step at this position, a homing step, has the same position as any other.
+/// A touch at this position, which homes, has the same position as any other.
 pub const HOME: u16 = 65535;
 /// The most runs.
 pub const RUNS: usize = 16;
-/// The most steps in a run.
+/// The most steps in a run, a transfer being one.
 pub const RUN_STEPS: usize = 32;
 /// The most steps in all.
 pub const STEPS: usize = 128;
@@ -36,7 +36,7 @@ struct RawAnswer {
 struct RawGate {
     pairs: [u8; KINDS * KINDS],
     cuts: [u8; RUNS * RUN_STEPS * RUNS],
-    steps: [u32; STEPS],
+    steps: [u64; STEPS],
     lengths: [u8; RUNS],
     counts: [u8; RUNS],
     kept: [u8; STEPS],
@@ -54,7 +54,7 @@ struct RawOpened {
 }
 
 // As `include/deck.h` asserts.
-const _: () = assert!(std::mem::size_of::<RawGate>() == 9160 && std::mem::size_of::<RawOpened>() == 9176);
+const _: () = assert!(std::mem::size_of::<RawGate>() == 9672 && std::mem::size_of::<RawOpened>() == 9688);
 
 // Of `enum deck_verdict`.
 const PASSED: u64 = 1;
@@ -116,7 +116,7 @@ causes! {
     BookTooLong = 1, "book over 16,384 bytes";
     NoCommand = 2, "byte that is no command";
     EndsEarly = 3, "book ends before 45 or inside operands";
-    OutOfOrder = 4, "command after a later group, or 53 before any 52";
+    OutOfOrder = 4, "command after a later group, or 53 or 54 before any 52";
     WrongKind = 5, "kind above 15, or a above b";
     NotRising = 6, "pair or triple not above the one before";
     WrongRun = 7, "52 not the next run; 42 or 48 a run not declared; 42 a run as seen by itself";
@@ -507,8 +507,29 @@ mod tests {
     }
 
     #[test]
+    fn a_transfer_conflicts_by_its_second_touch_too() {
+        let transfer = book("transfer-tangles");
+        let mut apart = transfer.clone();
+        let at = apart.iter().position(|&byte| byte == 0x54).unwrap();
+        apart[at + 6] = 7; // the second touch where no other step is
+        assert_eq!(judge(&apart), Ok(Verdict::Passed(vec![0, 0, 1])));
+        assert!(matches!(judge(&transfer), Ok(Verdict::Tangled(_))));
+        for (book, last) in [(apart, Reply::Place(2)), (transfer, Reply::Refused(Cause::Tangled))] {
+            let mut gate = Gate::open(&book).unwrap();
+            assert_eq!([gate.step(0), gate.step(1), gate.step(0)], [Reply::Place(0), Reply::Place(1), last]);
+        }
+    }
+
+    #[test]
+    fn a_transfer_is_one_step() {
+        assert_eq!(read(&book("transfer-full")), Ok(STEPS as u64));
+        assert_eq!(read(&book("refused30-transfer")), Err(Refusal { cause: Cause::RunTooLong, place: 226 }));
+        assert_eq!(read(&book("refused31-transfer")), Err(Refusal { cause: Cause::TooManySteps, place: 928 }));
+    }
+
+    #[test]
     fn a_book_comes_back_byte_for_byte() {
-        for name in ["row01", "row09", "figure1-rs", "figure4"] {
+        for name in ["row01", "row09", "figure1-rs", "figure4", "transfer-touches", "transfer-equal-touches"] {
             let b = book(name);
             assert_eq!(write(&b), Ok(b));
         }

@@ -23,17 +23,29 @@ static uint8_t *put_pairs(source *s, const shape *f, uint8_t *o) {
     return o;
 }
 
+static uint8_t *put_touch(source *s, const shape *f, uint8_t *o) {
+    unsigned position = below(s, f->positions) * (f->factor ? f->factor : 1);
+    if (f->homing && below(s, 100) < f->homing)
+        position = DECK_HOME;
+    else if (f->near && below(s, 100) < f->near)
+        position = DECK_HOME - 1;
+    *o++ = (uint8_t)below(s, f->kinds);
+    *o++ = (uint8_t)(position >> 8);
+    *o++ = (uint8_t)position;
+    return o;
+}
+
 static uint8_t *put_steps(source *s, const shape *f, unsigned steps, uint8_t *o) {
     while (steps-- > 0) {
-        unsigned position = below(s, f->positions) * (f->factor ? f->factor : 1);
-        if (f->homing && below(s, 100) < f->homing)
-            position = DECK_HOME;
-        else if (f->near && below(s, 100) < f->near)
-            position = DECK_HOME - 1;
-        *o++ = 0x53;
-        *o++ = (uint8_t)below(s, f->kinds);
-        *o++ = (uint8_t)(position >> 8);
-        *o++ = (uint8_t)position;
+        int transfer = f->transfers && below(s, 100) < f->transfers;
+        *o++ = transfer ? 0x54 : 0x53;
+        o = put_touch(s, f, o);
+        if (transfer && below(s, 10)) {
+            o = put_touch(s, f, o);
+        } else if (transfer) {
+            memcpy(o, o - 3, 3); /* an equal touch */
+            o += 3;
+        }
     }
     return o;
 }
@@ -88,15 +100,18 @@ static uint8_t *put_history(source *s, const shape *f, unsigned *left, uint8_t *
 size_t make_book(source *s, const shape *f, uint8_t *out) {
     unsigned length[DECK_RUNS];
     uint8_t *o = put_pairs(s, f, out);
+    o = put_steps(s, f, f->misplaced == 1, o);
     o = put_runs(s, f, length, o);
     o = put_cuts(s, f, length, o);
+    o = put_steps(s, f, f->misplaced == 2, o);
     o = put_history(s, f, length, o);
+    o = put_steps(s, f, f->misplaced == 3, o);
     *o++ = 0x45;
     return (size_t)(o - out);
 }
 
 size_t make_long_book(source *s, uint8_t *out) {
-    static const shape any = {.kinds = DECK_KINDS, .positions = DECK_POSITIONS}; /* of the steps */
+    static const shape any = {.kinds = DECK_KINDS, .positions = DECK_POSITIONS, .transfers = 50}; /* of the steps */
     const unsigned full = DECK_STEPS / DECK_RUN_STEPS; /* so many of the longest runs have all steps */
     const enum { RUN, RUN_STEP, STEP, BOTH, BYTE } over = below(s, 5);
     unsigned runs = over == RUN ? DECK_RUNS + 1 : over == RUN_STEP ? 1 + below(s, full - 1) : over == STEP ? full + 1 : full;
@@ -129,14 +144,16 @@ shape draw_shape(source *s) {
     f.factor = 1u << 4 * below(s, 4); /* so that positions differ in each of their digits to base 16 */
     f.homing = below(s, 2) ? 0 : below(s, 8) == 0 ? 100 : 1 + below(s, below(s, 2) ? 10 : 100);
     f.near = below(s, 4) ? 0 : 1 + below(s, 50);
+    f.transfers = below(s, 2) ? 0 : below(s, 4) == 0 ? 100 : 1 + below(s, 99);
     f.cuts = below(s, 4) == 0 ? 0 : below(s, 101);
     f.burst = 1 + below(s, below(s, 2) ? 2 : f.steps);
     f.undone = 25;
+    f.misplaced = below(s, 25) ? 0 : 1 + below(s, 3);
     return f;
 }
 
 size_t damage(source *s, uint8_t *book, size_t len) {
-    static const uint8_t commands[] = {0x43, 0x52, 0x53, 0x42, 0x48, 0x45};
+    static const uint8_t commands[] = {0x43, 0x52, 0x53, 0x54, 0x42, 0x48, 0x45};
     unsigned times = 1 + below(s, 3);
     while (times-- > 0) {
         size_t at = len ? draw(s) % len : 0;
@@ -147,7 +164,7 @@ size_t damage(source *s, uint8_t *book, size_t len) {
             break;
         case 1:
             if (len)
-                book[at] = commands[below(s, 6)];
+                book[at] = commands[below(s, sizeof commands)];
             break;
         case 2:
             if (len)
@@ -165,7 +182,7 @@ size_t damage(source *s, uint8_t *book, size_t len) {
         default:
             if (len < BOOK_ROOM) {
                 memmove(book + at + 1, book + at, len - at);
-                book[at] = below(s, 2) ? commands[below(s, 6)] : (uint8_t)below(s, 20);
+                book[at] = below(s, 2) ? commands[below(s, sizeof commands)] : (uint8_t)below(s, 20);
                 len++;
             }
         }
@@ -224,4 +241,13 @@ int none(long count, const char *text, const char *where) {
     if (!count)
         printf("%s: no book %s\n", text, where);
     return !count;
+}
+
+int print_counts(const book_count *counts, size_t n) {
+    int status = 0;
+    for (size_t k = 0; k < n; k++) {
+        printf("%s: %ld\n", counts[k].text, counts[k].books);
+        status |= none(counts[k].books, counts[k].text, "at all");
+    }
+    return status;
 }

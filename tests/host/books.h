@@ -22,14 +22,16 @@ typedef struct {
     unsigned pairs; /* percent of the pairs of kinds that conflict */
     unsigned positions; /* positions are numbers below this */
     unsigned factor; /* times this, modulo 65536; 0 stands for 1 */
-    unsigned homing; /* percent of the steps that are at DECK_HOME instead */
+    unsigned homing; /* percent of the touches that are at DECK_HOME instead */
     unsigned near; /* percent of the others that are at the position before it */
+    unsigned transfers; /* percent of the steps that are transfers, of which some have equal touches */
     unsigned cuts; /* percent of the cuts */
     unsigned burst; /* done steps of one run in a row, at most */
     unsigned undone; /* percent of the histories that stop early */
+    unsigned misplaced; /* 1, 2 or 3: one step more stands before the runs, behind the cuts or behind the history; 0: none does */
 } shape;
 
-/* The length of a legal book of that shape, which goes to out, of BOOK_ROOM bytes. */
+/* The length of a book of that shape, which goes to out, of BOOK_ROOM bytes. It is legal but for a misplaced step. */
 size_t make_book(source *s, const shape *f, uint8_t *out);
 
 /* The length of a book over the limits, which goes to out: a run, a step of a run, a step of the book, a step that is both or a byte too many. */
@@ -57,5 +59,14 @@ int test_books(uint64_t seed, long books, book_test *test);
 
 /* 1 and a printed line where there were no such books. */
 int none(long count, const char *text, const char *where);
+
+/* A count of books, and of which. */
+typedef struct {
+    const char *text;
+    long books;
+} book_count;
+
+/* Prints each of n counts; 1 where one of them is 0. */
+int print_counts(const book_count *counts, size_t n);
 
 #endif

@@ -9,9 +9,9 @@
 enum { BOOKS = 6000 };
 enum { DRAWN = 3 }; /* books with drawn cuts, for each accepted book */
 
-/* The longest book has all pairs, all runs, all steps in as few of them as hold them, every cut, and all steps done. It is no longer than a book may be,
-   so a book with every cut is never refused by 1. */
-_Static_assert(3 * DECK_KINDS * (DECK_KINDS + 1) / 2 + 2 * DECK_RUNS + 4 * DECK_STEPS +
+/* The longest book has all pairs, all runs, all steps in as few of them as hold them, each a transfer, every cut, and all steps done. It is no longer
+   than a book may be, so a book with every cut is never refused by 1. */
+_Static_assert(3 * DECK_KINDS * (DECK_KINDS + 1) / 2 + 2 * DECK_RUNS + 7 * DECK_STEPS +
                    4 * (DECK_STEPS - DECK_STEPS / DECK_RUN_STEPS) * (DECK_RUNS - 1) + 2 * DECK_STEPS + 1 <= DECK_BOOK,
                "the longest book");
 

@@ -1,5 +1,5 @@
 /* The proved calls beside plain.c, on one book: every call, on drawn lists, places and calls to the gate, and on gates' records, as the calls leave them
-   and altered; the evidence of each verdict, and the arcs of its cycle. */
+   and altered; the evidence of each verdict, and the arcs of its cycle. And plain.c by the rules as they are beside plain.c by earlier ones. */
 #include "compare.h"
 #include <string.h>
 
@@ -95,7 +95,8 @@ static int same_gate(const deck_gate *live, const plain_gate *g) {
         if (!untouched(live->pairs + x * DECK_KINDS, 0, (size_t)x, 0))
             return 0;
     plain_gate_of(live, &held);
-    held.book.home = g->book.home; /* it is no part of a record */
+    held.book.home = g->book.home; /* the rules are no part of a record */
+    held.book.first_touches = g->book.first_touches;
     return memcmp(&held, g, sizeof held) == 0;
 }
 
@@ -131,9 +132,12 @@ static void compare_call(deck_gate *record, int step, int run, int want, const c
     expect(memcmp(record, &next, sizeof next) == 0, what);
 }
 
+static uint64_t draw_touch(source *s) { return below(s, DECK_KINDS) * DECK_POSITIONS + (below(s, 2) ? below(s, DECK_POSITIONS) : DECK_HOME); }
+
 /* Changes a record in one way, after which it may still be sound: some byte, every byte, a flag, a number, a step, a length, a count or a kept step. */
 static void alter_record(source *s, deck_gate *record) {
     static const uint64_t edges[] = {0, DECK_RUNS, DECK_RUNS + 1, DECK_STEPS, DECK_STEPS + 1, UINT64_MAX};
+    static const uint64_t codes[] = {DECK_TOUCHES, DECK_TOUCHES * (DECK_TOUCHES + 1ull), UINT64_MAX}; /* of the first transfer, behind the last, the largest */
     uint64_t *numbers[] = {&record->declared, &record->total, &record->kept_count}, *number = numbers[below(s, 3)];
     unsigned runs = below(s, 2) ? DECK_RUNS : 2, steps = below(s, 2) ? DECK_STEPS : 4; /* most books have 2 and 4 */
     unsigned r = below(s, runs), q = below(s, runs), p = below(s, steps);
@@ -162,11 +166,12 @@ static void alter_record(source *s, deck_gate *record) {
         *number += below(s, 2) ? 1 : UINT64_MAX; /* one more or one less */
         break;
     case 7:
-        record->steps[p] = below(s, 2) ? below(s, DECK_POSITIONS) : DECK_HOME;
-        record->steps[p] += below(s, DECK_KINDS) * DECK_POSITIONS;
+        record->steps[p] = draw_touch(s);
+        if (below(s, 2))
+            record->steps[p] += (draw_touch(s) + 1) * DECK_TOUCHES;
         break;
     case 8:
-        record->steps[p] = DECK_KINDS * DECK_POSITIONS - below(s, 2);
+        record->steps[p] = codes[below(s, sizeof codes / sizeof *codes)] - below(s, 2);
         break;
     case 9: /* with the sum of the lengths */
         record->total += (uint64_t)length - record->lengths[r];
@@ -321,4 +326,48 @@ void compare_book(source *s, const uint8_t *book, size_t len, const plain_book *
     compare_gate(s, book, len, b, r);
     if (r.number)
         compare_refused_gate(book, len, r);
+}
+
+enum { VERDICT, ORDER, RELSERIAL, CONFLICT, GATE, DIFFERENCES };
+
+static book_count differences[DIFFERENCES] = {
+    [VERDICT] = {"  another verdict", 0},
+    [ORDER] = {"  passed by both, in another order", 0},
+    [RELSERIAL] = {"  another answer of relatively serial", 0},
+    [CONFLICT] = {"  another answer of conflict serializable", 0},
+    [GATE] = {"  another answer of the gate to a step of the history", 0},
+};
+
+/* Whether the history is passed; if so, in which order. */
+static int passes(const plain_book *b, uint8_t *order) {
+    uint8_t cycle[DECK_STEPS];
+    int count;
+    return plain_judge(b, order, cycle, &count);
+}
+
+/* Whether two gates, over the one book and over the other, give the same answers to the steps of the history, which both have. */
+static int same_at_the_gate(const plain_book *a, const plain_book *b) {
+    plain_gate g, h;
+    int same = 1;
+    plain_open(a, &g);
+    plain_open(b, &h);
+    for (int p = 0; p < a->n; p++)
+        same &= plain_step(&g, a->history[p]) == plain_step(&h, a->history[p]);
+    return same;
+}
+
+void count_differences(const plain_book *b, const plain_book *earlier) {
+    uint8_t order[DECK_STEPS], earlier_order[DECK_STEPS];
+    int passed = passes(b, order), was_passed = passes(earlier, earlier_order);
+    differences[VERDICT].books += passed != was_passed;
+    differences[ORDER].books += passed && was_passed && memcmp(order, earlier_order, (size_t)b->n) != 0;
+    differences[RELSERIAL].books += plain_relserial(b) != plain_relserial(earlier);
+    differences[CONFLICT].books += plain_conflict(b) != plain_conflict(earlier);
+    differences[GATE].books += !same_at_the_gate(b, earlier);
+}
+
+int test_rules(int argc, char **argv, uint64_t seed, long books, book_test *test, const book_count *counts, size_t n) {
+    test_files(seed, argv + 1, test);
+    int status = test_books(seed, books, test) | none(argc - 1, "files", "at all");
+    return status | print_counts(counts, n) | print_counts(differences, DIFFERENCES);
 }

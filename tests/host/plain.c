@@ -48,20 +48,25 @@ static int read_run(const uint8_t *c, plain_book *b, progress *p) {
     return 0;
 }
 
-static int read_step(const uint8_t *c, plain_book *b, progress *p) {
+/* A single step or a transfer, by its number of touches, of three bytes each. */
+static int read_step(const uint8_t *c, int touches, plain_book *b, progress *p) {
     int r = b->runs - 1;
     if (p->group > 1 || b->runs == 0)
         return DECK_OUT_OF_ORDER;
-    if (c[1] >= DECK_KINDS)
-        return DECK_WRONG_KIND;
+    for (int i = 0; i < touches; i++)
+        if (c[3 * i + 1] >= DECK_KINDS)
+            return DECK_WRONG_KIND;
     if (b->length[r] == DECK_RUN_STEPS)
         return DECK_RUN_TOO_LONG;
     if (b->steps == DECK_STEPS)
         return DECK_TOO_MANY_STEPS;
     p->group = 1;
-    b->kind[r][b->length[r]] = c[1];
-    b->position[r][b->length[r]] = (uint16_t)(c[2] << 8 | c[3]);
-    b->length[r]++;
+    step_record *step = &b->step[r][b->length[r]++];
+    step->touches = (uint16_t)touches;
+    for (int i = 0; i < touches; i++) {
+        step->touch[i].kind = c[3 * i + 1];
+        step->touch[i].position = (uint16_t)(c[3 * i + 2] << 8 | c[3 * i + 3]);
+    }
     b->steps++;
     return 0;
 }
@@ -93,11 +98,10 @@ static int read_done(const uint8_t *c, plain_book *b, progress *p) {
     return 0;
 }
 
-plain_refusal plain_read(const uint8_t *s, size_t len, plain_book *b) {
+/* Into a book that is empty, and whose steps conflict by one rule or the other. */
+static plain_refusal read_book(const uint8_t *s, size_t len, plain_book *b) {
     progress p = {0, -1, -1};
     size_t at = 0;
-    memset(b, 0, sizeof *b);
-    b->home = DECK_HOME;
     if (len > DECK_BOOK)
         return refuse(DECK_BOOK_TOO_LONG, 0);
     while (at < len) {
@@ -112,7 +116,12 @@ plain_refusal plain_read(const uint8_t *s, size_t len, plain_book *b) {
             number = left < (size = 2) ? DECK_ENDS_EARLY : read_run(c, b, &p);
             break;
         case 0x53:
-            number = left < (size = 4) ? DECK_ENDS_EARLY : read_step(c, b, &p);
+            number = left < (size = 4) ? DECK_ENDS_EARLY : read_step(c, 1, b, &p);
+            break;
+        case 0x54:
+            if (b->first_touches)
+                return refuse(DECK_NO_COMMAND, at);
+            number = left < (size = 7) ? DECK_ENDS_EARLY : read_step(c, 2, b, &p);
             break;
         case 0x42:
             number = left < (size = 4) ? DECK_ENDS_EARLY : read_cut(c, b, &p);
@@ -132,6 +141,27 @@ plain_refusal plain_read(const uint8_t *s, size_t len, plain_book *b) {
     return refuse(DECK_ENDS_EARLY, at);
 }
 
+plain_refusal plain_read(const uint8_t *s, size_t len, plain_book *b) {
+    memset(b, 0, sizeof *b);
+    b->home = DECK_HOME;
+    return read_book(s, len, b);
+}
+
+plain_refusal plain_read_singles(const uint8_t *s, size_t len, plain_book *b) {
+    memset(b, 0, sizeof *b);
+    b->home = DECK_HOME;
+    b->first_touches = 1;
+    return read_book(s, len, b);
+}
+
+int plain_count(const plain_book *b, int (*is)(const step_record *step)) {
+    int n = 0;
+    for (int r = 0; r < b->runs; r++)
+        for (int i = 0; i < b->length[r]; i++)
+            n += is(&b->step[r][i]);
+    return n;
+}
+
 size_t plain_write(const plain_book *b, uint8_t *out) {
     uint8_t *o = out;
     for (int x = 0; x < DECK_KINDS; x++)
@@ -145,10 +175,13 @@ size_t plain_write(const plain_book *b, uint8_t *out) {
         *o++ = 0x52;
         *o++ = (uint8_t)r;
         for (int i = 0; i < b->length[r]; i++) {
-            *o++ = 0x53;
-            *o++ = b->kind[r][i];
-            *o++ = (uint8_t)(b->position[r][i] >> 8);
-            *o++ = (uint8_t)b->position[r][i];
+            const step_record *step = &b->step[r][i];
+            *o++ = step->touches == 2 ? 0x54 : 0x53;
+            for (int k = 0; k < step->touches; k++) {
+                *o++ = (uint8_t)step->touch[k].kind;
+                *o++ = (uint8_t)(step->touch[k].position >> 8);
+                *o++ = (uint8_t)step->touch[k].position;
+            }
         }
     }
     for (int r = 0; r < b->runs; r++)
@@ -172,10 +205,24 @@ size_t plain_write(const plain_book *b, uint8_t *out) {
 
 static int same_position(const plain_book *b, int x, int y) { return x == y || x == b->home || y == b->home; }
 
-/* step i of run r and step j of run s, which count from 0 */
-static int steps_conflict(const plain_book *b, int r, int i, int s, int j) {
-    return r != s && same_position(b, b->position[r][i], b->position[s][j]) && b->conflicts[b->kind[r][i]][b->kind[s][j]];
+static int touches_conflict(const plain_book *b, const plain_touch *x, const plain_touch *y) {
+    return same_position(b, x->position, y->position) && b->conflicts[x->kind][y->kind];
 }
+
+/* how many touches of a step count */
+static int counted_touches(const plain_book *b, const step_record *x) { return b->first_touches ? 1 : x->touches; }
+
+/* whether any touch of the one conflicts with any touch of the other */
+static int meet(const plain_book *b, const step_record *x, const step_record *y) {
+    for (int i = 0; i < counted_touches(b, x); i++)
+        for (int k = 0; k < counted_touches(b, y); k++)
+            if (touches_conflict(b, &x->touch[i], &y->touch[k]))
+                return 1;
+    return 0;
+}
+
+/* step i of run r and step j of run s, which count from 0 */
+static int steps_conflict(const plain_book *b, int r, int i, int s, int j) { return r != s && meet(b, &b->step[r][i], &b->step[s][j]); }
 
 /* ---- the graph, for the judge: rows of bits, a run's prefix at a time */
 
@@ -203,24 +250,29 @@ static int conflicting(const plain_book *b, const graph *g, int p, int q) {
 }
 
 static void find_depends(const plain_book *b, graph *g) {
-    uint8_t kind[DECK_STEPS];
-    uint16_t position[DECK_STEPS];
+    plain_touch touch[2 * DECK_STEPS]; /* those of the places before q that count */
+    int place[2 * DECK_STEPS], touches = 0; /* whose they are, and how many */
     for (int q = 0; q < b->n; q++) {
-        int s = b->history[q], j = g->ordinal[q];
-        kind[q] = b->kind[s][j];
-        position[q] = b->position[s][j];
+        int s = b->history[q], j = g->ordinal[q], own = counted_touches(b, &b->step[s][j]);
+        const plain_touch *t = b->step[s][j].touch;
         row d = {{0, 0}};
         if (j > 0) {
             int p = g->place[s][j - 1];
             d = g->depends[p];
             set(&d, p);
         }
-        for (int p = 0; p < q; p++)
-            if (same_position(b, position[p], position[q]) && b->history[p] != s && b->conflicts[kind[p]][kind[q]]) {
-                d.w[0] |= g->depends[p].w[0];
-                d.w[1] |= g->depends[p].w[1];
-                set(&d, p);
-            }
+        for (int k = 0; k < own; k++)
+            for (int i = 0; i < touches; i++)
+                if (touches_conflict(b, &touch[i], &t[k]) && b->history[place[i]] != s) {
+                    const row *e = &g->depends[place[i]];
+                    d.w[0] |= e->w[0];
+                    d.w[1] |= e->w[1];
+                    set(&d, place[i]);
+                }
+        for (int k = 0; k < own; k++) {
+            touch[touches] = t[k];
+            place[touches++] = q;
+        }
         g->depends[q] = d;
     }
 }
@@ -527,6 +579,19 @@ int plain_withdraw(plain_gate *g, int r) {
 
 /* ---- a gate's record */
 
+static const uint64_t step_codes = (uint64_t)DECK_TOUCHES * (DECK_TOUCHES + 1); /* those of steps are below this */
+
+static plain_touch touch_of(uint64_t code) { return (plain_touch){(uint16_t)(code / DECK_POSITIONS), (uint16_t)(code % DECK_POSITIONS)}; }
+
+static step_record step_of(uint64_t code) {
+    step_record step = {.touches = 1, .touch = {touch_of(code % DECK_TOUCHES)}};
+    if (code >= DECK_TOUCHES) {
+        step.touches = 2;
+        step.touch[1] = touch_of(code / DECK_TOUCHES - 1);
+    }
+    return step;
+}
+
 /* n entries, each 0 or 1 */
 static int flags(const uint8_t *table, int n) {
     for (int i = 0; i < n; i++)
@@ -545,7 +610,7 @@ static int runs_sound(const deck_gate *record) {
         sum += record->lengths[r];
     }
     for (uint64_t i = 0; i < DECK_STEPS; i++)
-        if (record->steps[i] >= DECK_KINDS * DECK_POSITIONS || (i >= record->total && record->steps[i] != 0))
+        if (record->steps[i] >= step_codes || (i >= record->total && record->steps[i] != 0))
             return 0;
     return sum == record->total;
 }
@@ -581,11 +646,8 @@ void plain_gate_of(const deck_gate *record, plain_gate *g) {
             b->conflicts[x][y] = record->pairs[x * DECK_KINDS + y] | record->pairs[y * DECK_KINDS + x];
     for (int r = 0; r < DECK_RUNS; r++) {
         memcpy(b->cut[r], record->cuts + r * DECK_RUN_STEPS * DECK_RUNS, DECK_RUN_STEPS * DECK_RUNS);
-        for (int i = 0; i < record->lengths[r]; i++) {
-            uint32_t code = record->steps[b->steps++];
-            b->kind[r][i] = (uint8_t)(code / DECK_POSITIONS);
-            b->position[r][i] = (uint16_t)(code % DECK_POSITIONS);
-        }
+        for (int i = 0; i < record->lengths[r]; i++)
+            b->step[r][i] = step_of(record->steps[b->steps++]);
         b->length[r] = record->lengths[r];
         b->done[r] = record->counts[r];
         g->withdrawn[r] = record->withdrawn[r];

@@ -5,15 +5,25 @@
 #include "deck.h"
 
 typedef struct {
+    uint16_t kind, position;
+} plain_touch;
+
+/* A single step, with one touch, or a transfer, with two. */
+typedef struct {
+    uint16_t touches; /* 1 or 2 */
+    plain_touch touch[2]; /* of a single step the second is all 0 */
+} step_record;
+
+typedef struct {
     uint8_t conflicts[DECK_KINDS][DECK_KINDS]; /* both ways round */
     uint8_t cut[DECK_RUNS][DECK_RUN_STEPS + 1][DECK_RUNS]; /* cut[r][j][o]: in r after step j, as seen by o */
-    uint8_t kind[DECK_RUNS][DECK_RUN_STEPS];
-    uint16_t position[DECK_RUNS][DECK_RUN_STEPS];
+    step_record step[DECK_RUNS][DECK_RUN_STEPS];
     int length[DECK_RUNS];
     int done[DECK_RUNS];
     uint8_t history[DECK_STEPS];
     int runs, steps, n;
     int home; /* the position that is the same as any other: DECK_HOME, or -1 for none, as it was before homing */
+    int first_touches; /* whether steps conflict by their first touches alone, as they did before transfers */
 } plain_book;
 
 typedef struct {
@@ -21,8 +31,14 @@ typedef struct {
     size_t place;
 } plain_refusal;
 
-/* The book that the bytes are, where they are accepted; its home is DECK_HOME. */
+/* The book that the bytes are, where they are accepted; its home is DECK_HOME, and its steps conflict by any touch. */
 plain_refusal plain_read(const uint8_t *s, size_t len, plain_book *b);
+
+/* The same as it was before transfers: 54 is no command, and steps conflict by their first touches. */
+plain_refusal plain_read_singles(const uint8_t *s, size_t len, plain_book *b);
+
+/* How many of the book's steps are so. */
+int plain_count(const plain_book *b, int (*is)(const step_record *step));
 
 /* The length of the book's bytes, which go to out. */
 size_t plain_write(const plain_book *b, uint8_t *out);
@@ -58,7 +74,7 @@ int plain_withdraw(plain_gate *g, int r);
 /* Whether a gate's record is sound: its tables are in range and agree with one another. The calls refuse any other by 26. */
 int plain_sound(const deck_gate *record);
 
-/* The plain gate of a sound record; its book's home is DECK_HOME. */
+/* The plain gate of a sound record; its book is as plain_read has it. */
 void plain_gate_of(const deck_gate *record, plain_gate *g);
 
 #endif

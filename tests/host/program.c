@@ -114,7 +114,7 @@ int main(int argc, char **argv) {
     }
     deck = argv[1];
     file = argv[2];
-    int status = test_books(1994, BOOKS, compare);
+    int status = test_books(1998, BOOKS, compare); /* by this seed each letter is printed; an I arc is rare in a cycle */
     remove(file);
     for (int k = 0; k < LETTERS; k++) {
         printf("arcs printed as %s: %ld\n", letters[k].letter, letters[k].printed);

@@ -1,14 +1,16 @@
--- Laws of the bits of a table: in a word, in a table of zeros, after a store, while a row is replaced word by word.
+-- Laws of the bits of a table: in a word, in a table of zeros, after a store, while a row is replaced word by word, with a column more.
 use mathlib.Core.Path.{_≡_, refl, sym, ap, ap₂, _∙_}
 use mathlib.Core.List.{List}
-use Prim.Native.Nat.{ℕ, zero, suc, _+_, _*_, _/_, _%_, _^_, _≤_, _<_}
+use Prim.Native.Nat.{ℕ, zero, suc, _+_, _*_, _/_, _%_, _^_, _≤_, _<_, max}
 use native.Mathlib.Decide.{ℕ-discrete}
 use native.Mathlib.Omega.{arith}
-use lib.Bits.{bitAnd, bitOr, and-mask}
+use lib.Bits.{bitAnd, and-mask}
 use lib.ListN.{length, getD, set, length-set, replicate}
 use lib.Seq.{getD-set-same, getD-set-other}
-use Rattle.bits.specs.Table.{row-words, row-bits, bit, bit-at, Marked, Replaced, RowCopied}
-use Rattle.bits.proofs.Word.{bit-lt, bit-zero, set-here, set-other}
+use borrow.Author.Tests.{eq-eqb, ne-eqb}
+use Rattle.bits.specs.Table.{row-words, row-bits, bit, bit-at, union, column, Alone, Marked, Replaced, RowCopied}
+use Rattle.bits.specs.inner.Words.{WordOf}
+use Rattle.bits.proofs.Word.{bit-lt, bit-zero, one-here, one-other}
 
 pub bit-at-lt : (t : List ℕ) (row col : ℕ) → bit-at t row col < 2
 unfolding bit-at
@@ -65,26 +67,6 @@ store-same t i v row col h e = sym (in-word (set t i v) i row col e) ∙ ap (λ 
 
 store-other : (t : List ℕ) (i v row col : ℕ) → (row-words * row + col / 64 ≡ i → ⊥) → bit-at (set t i v) row col ≡ bit-at t row col
 store-other t i v row col h = same-word t (set t i v) row col (getD-set-other t i (row-words * row + col / 64) v 0 h)
-
-pub marked-by : (t : List ℕ) (i row col : ℕ) → i < length t → col < row-bits → row-words * row + col / 64 ≡ i
-    → Marked t (set t i (bitOr (getD t i 0) (1 * 2 ^ (col % 64) % 2 ^ 64))) row col
-marked-by t i row col hi hc at = record { here = here; other = other }
-  where
-    v : ℕ
-    v = bitOr (getD t i 0) (1 * 2 ^ (col % 64) % 2 ^ 64)
-
-    here : bit-at (set t i v) row col ≡ 1
-    here = store-same t i v row col hi at ∙ set-here (getD t i 0) (col % 64) (omega arith)
-
-    other : (r c : ℕ) → c < row-bits → ((r ≡ row) × (c ≡ col) → ⊥) → bit-at (set t i v) r c ≡ bit-at t r c
-    other r c h ne = go (ℕ-discrete (row-words * r + c / 64) i)
-      where
-        go : Dec (row-words * r + c / 64 ≡ i) → bit-at (set t i v) r c ≡ bit-at t r c
-        go (no d) = store-other t i v r c d
-        go (yes e) =
-            store-same t i v r c hi e
-            ∙ set-other (getD t i 0) (col % 64) (c % 64) (omega arith) (λ q. ne (omega arith, omega arith))
-            ∙ in-word t i r c e
 
 -- ---- a row replaced word by word
 
@@ -145,3 +127,52 @@ copied-more t u s dst src k i j at from hi hk b =
 
 pub copied-all : {z t m : List ℕ} {row k : ℕ} → row-words ≤ k → ReplacedUpTo z m 0 (bit-at t row) k → RowCopied t row m
 copied-all l b = record { same = λ c h. b .here c (omega arith) }
+
+-- ---- a column of a row
+
+pub column-here : (col k : ℕ) → col / 64 ≡ k → WordOf (column col) k (1 * 2 ^ (col % 64) % 2 ^ 64)
+column-here col k e = record { columns = λ c h. go c h (ℕ-discrete c col) }
+  where
+    go : (c : ℕ) → c / 64 ≡ k → Dec (c ≡ col) → bit (1 * 2 ^ (col % 64) % 2 ^ 64) (c % 64) ≡ column col c
+    go c h (yes z) = rw (z, eq-eqb col col refl) (one-here (col % 64) (omega arith))
+    go c h (no n) = rw (ne-eqb c col n) (one-other (col % 64) (c % 64) (omega arith) (λ q. n (omega arith)))
+
+pub column-elsewhere : (col k : ℕ) → (col / 64 ≡ k → ⊥) → WordOf (column col) k 0
+column-elsewhere col k n = record { columns = λ c h. bit-zero (c % 64) ∙ sym (rw (ne-eqb c col (λ e. n (omega arith)))) }
+
+pub column-added : (t u : List ℕ) (row col : ℕ) → col < row-bits → Replaced t u row (union (bit-at t row) (column col)) → Marked t u row col
+column-added t u row col h w = record { here = here; other = λ r c i ne. other r c i ne (ℕ-discrete r row) }
+  where
+    here : bit-at u row col ≡ 1
+    here =
+        let e : column col col ≡ 1 = rw (eq-eqb col col refl) in
+        omega (arith, w .here col h, bit-at-lt t row col)
+
+    other : (r c : ℕ) → c < row-bits → ((r ≡ row) × (c ≡ col) → ⊥) → Dec (r ≡ row) → bit-at u r c ≡ bit-at t r c
+    other r c i ne (no n) = w .other r c i n
+    other r c i ne (yes z) =
+        let e : column col c ≡ 0 = rw (ne-eqb c col (λ d. ne (z, d))) in
+        let f : bit-at u row c ≡ bit-at t row c = omega (arith, w .here c i) in
+        rw z f
+
+-- a row with the columns of one that has a column alone
+pub alone-added : (t u m : List ℕ) (row col : ℕ) → col < row-bits → Alone col m → Replaced t u row (union (bit-at t row) (bit-at m 0)) → Marked t u row col
+alone-added t u m row col h a w = column-added t u row col h (record { here = λ c i. w .here c i ∙ ap (λ (x : ℕ). max (bit-at t row c) x) (a .is c i); other = w .other; words = w .words })
+
+-- the words of such a row, one after another
+pub record AloneUpTo (col : ℕ) (m : List ℕ) (k : ℕ) : Type 0 where
+  pub size : length m ≡ row-words
+  pub is : (c : ℕ) → c < 64 * k → bit-at m 0 c ≡ column col c
+
+pub alone-none : (col : ℕ) (m : List ℕ) → length m ≡ row-words → AloneUpTo col m 0
+alone-none col m e = record { size = e; is = λ c h. omega arith }
+
+pub alone-more : (col : ℕ) (m : List ℕ) (k v : ℕ) → k < row-words → AloneUpTo col m k → WordOf (column col) k v → AloneUpTo col (set m k v) (k + 1)
+alone-more col m k v l a w = record { size = length-set m k v ∙ a .size; is = λ c h. go c h (ℕ-discrete (c / 64) k) }
+  where
+    go : (c : ℕ) → c < 64 * (k + 1) → Dec (c / 64 ≡ k) → bit-at (set m k v) 0 c ≡ column col c
+    go c h (yes e) = store-same m k v 0 c (omega (arith, a .size)) (omega arith) ∙ w .columns c e
+    go c h (no n) = store-other m k v 0 c (λ e. n (omega arith)) ∙ a .is c (omega arith)
+
+pub alone-all : (col : ℕ) (m : List ℕ) (k : ℕ) → row-words ≤ k → AloneUpTo col m k → Alone col m
+alone-all col m k l a = record { is = λ c h. a .is c (omega arith) }

@@ -68,16 +68,11 @@ bit-pow-other j k h = go (decLt k j)
 shl-one : (j : ℕ) → j < 64 → 1 * 2 ^ j % 2 ^ 64 ≡ 2 ^ j
 shl-one j h = ap (λ (x : ℕ). x % 2 ^ 64) (one-mul (2 ^ j)) ∙ mod-eq-of-lt (pow-lt h)
 
--- w | 1 << j
-pub set-here : (w j : ℕ) → j < 64 → bit (bitOr w (1 * 2 ^ j % 2 ^ 64)) j ≡ 1
-set-here w j h =
-    let one : bit (1 * 2 ^ j % 2 ^ 64) j ≡ 1 = ap (λ (x : ℕ). bit x j) (shl-one j h) ∙ bit-pow-same j in
-    bit-or w (1 * 2 ^ j % 2 ^ 64) j ∙ omega (arith, bit-lt w j)
+pub one-here : (j : ℕ) → j < 64 → bit (1 * 2 ^ j % 2 ^ 64) j ≡ 1
+one-here j h = ap (λ (x : ℕ). bit x j) (shl-one j h) ∙ bit-pow-same j
 
-pub set-other : (w j k : ℕ) → j < 64 → (k ≡ j → ⊥) → bit (bitOr w (1 * 2 ^ j % 2 ^ 64)) k ≡ bit w k
-set-other w j k h ne =
-    let no : bit (1 * 2 ^ j % 2 ^ 64) k ≡ 0 = ap (λ (x : ℕ). bit x k) (shl-one j h) ∙ bit-pow-other j k ne in
-    bit-or w (1 * 2 ^ j % 2 ^ 64) k ∙ omega arith
+pub one-other : (j k : ℕ) → j < 64 → (k ≡ j → ⊥) → bit (1 * 2 ^ j % 2 ^ 64) k ≡ 0
+one-other j k h ne = ap (λ (x : ℕ). bit x k) (shl-one j h) ∙ bit-pow-other j k ne
 
 -- ---- the lowest bit of the k lowest
 

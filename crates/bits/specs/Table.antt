@@ -1,9 +1,10 @@
 -- Tables of bits: their sizes, which bit stands where, and what the calls of `bits` say of them.
 use mathlib.Core.Path.{_≡_}
-use mathlib.Core.Bool.{Bool, true}
+use mathlib.Core.Bool.{Bool, true, cond}
 use mathlib.Core.List.{List}
 use Prim.Native.Nat.{ℕ, _+_, _-_, _*_, _/_, _%_, _^_, _<_, min, max}
 use lib.ListN.{getD}
+use lib.Dec.{eqb}
 
 -- how many words of 64 bits a row has: the one number that the other sizes follow from
 abbrev pub row-words : ℕ
@@ -38,6 +39,14 @@ intersection f g c = min (f c) (g c)
 
 abbrev pub difference : (ℕ → ℕ) → (ℕ → ℕ) → ℕ → ℕ
 difference f g c = min (f c) (1 - g c)
+
+-- this column alone
+abbrev pub column : ℕ → ℕ → ℕ
+column col c = cond (eqb c col) 1 0
+
+-- m is the row that has this column alone
+pub record Alone (col : ℕ) (m : List ℕ) : Type 0 where
+  pub is : (c : ℕ) → c < row-bits → bit-at m 0 c ≡ column col c
 
 -- u is t with the bit at (row, col) set and every other bit as it was
 pub record Marked (t u : List ℕ) (row col : ℕ) : Type 0 where

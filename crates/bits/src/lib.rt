@@ -3,10 +3,10 @@ ghost use mathlib.Core.Path.{_≡_};
 ghost use Prim.Native.Nat.{ℕ, _<_};
 ghost use lib.ListN.{length};
 ghost use lib.Dec.{eqb};
-ghost use Rattle.bits.specs.Table.{row-words, row-bits, rows, table-words, bit, bit-at, union, intersection, difference, Marked, Replaced, RowCopied, Subset};
+ghost use Rattle.bits.specs.Table.{row-words, row-bits, rows, table-words, bit, bit-at, union, intersection, difference, column, Alone, Marked, Replaced, RowCopied, Subset};
 ghost use Rattle.bits.specs.First.{First};
 ghost use Rattle.bits.specs.Last.{Last};
-ghost use Rattle.bits.specs.inner.Words.{BitLength};
+ghost use Rattle.bits.specs.inner.Words.{BitLength, WordOf};
 
 // The number of words in a row. The other sizes follow from it.
 pub const ROW_WORDS: usize = 2;
@@ -41,14 +41,49 @@ pub fn marked(t: &Table, row: usize, col: usize) -> bool
     (t[ROW_WORDS * row + col / 64] >> (col % 64)) & 1 == 1
 }
 
+// The word k of a row that has this column alone.
+fn column_word(col: usize, k: usize) -> u64
+    ensures { λ r. ⌜ WordOf (column col) k r ⌝ }
+{
+    if col / 64 == k {
+        return 1 << (col % 64);
+    }
+    0
+}
+
 // Sets the bit at (row, col).
 pub fn mark(t: &mut Table, row: usize, col: usize)
     requires { ⌜ (row < rows) × (col < row-bits) ⌝ }
     ensures { λ r. ⌜ Marked (now (t .entry)) (now (t .exit)) row col ⌝ }
 {
     sized(*t);
-    let at = ROW_WORDS * row + col / 64;
-    t[at] = t[at] | (1 << (col % 64));
+    for k in 0..ROW_WORDS {
+        let at = ROW_WORDS * row + k;
+        t[at] = t[at] | column_word(col, k);
+    }
+}
+
+// The row that has this column alone.
+pub fn column(col: usize) -> Row
+    ensures { λ r. ⌜ Alone col r ⌝ }
+{
+    let mut m = [0; ROW_WORDS];
+    for k in 0..ROW_WORDS {
+        m[k] = column_word(col, k);
+    }
+    m
+}
+
+// Adds the columns of the row m to the row of t.
+pub fn join(t: &mut Table, row: usize, m: &Row)
+    requires { ⌜ row < rows ⌝ }
+    ensures { λ r. ⌜ Replaced (now (t .entry)) (now (t .exit)) row (union (bit-at (now (t .entry)) row) (bit-at (now (m .entry)) 0)) ⌝ }
+{
+    sized(*t);
+    for k in 0..ROW_WORDS {
+        let at = ROW_WORDS * row + k;
+        t[at] = t[at] | m[k];
+    }
 }
 
 // Whether the column is in the row m.
@@ -59,14 +94,15 @@ pub fn has(m: &Row, col: usize) -> bool
     (m[col / 64] >> (col % 64)) & 1 == 1
 }
 
-// Adds the column to the row m.
+// Adds the column to the row m. Each word is stored, so that the compiler can hold m in registers.
 pub fn add(m: &mut Row, col: usize)
     requires { ⌜ col < row-bits ⌝ }
     ensures { λ r. ⌜ Marked (now (m .entry)) (now (m .exit)) 0 col ⌝ }
 {
     sized_row(*m);
-    let at = col / 64;
-    m[at] = m[at] | (1 << (col % 64));
+    for k in 0..ROW_WORDS {
+        m[k] = m[k] | column_word(col, k);
+    }
 }
 
 // Adds to the row dst of t those columns of the row src of u that are in the mask.
@@ -89,6 +125,16 @@ pub fn add_row(m: &mut Row, t: &Table, row: usize)
     sized_row(*m);
     for k in 0..ROW_WORDS {
         m[k] = m[k] | t[ROW_WORDS * row + k];
+    }
+}
+
+// Adds the columns of the row n to the row m.
+pub fn add_all(m: &mut Row, n: &Row)
+    ensures { λ r. ⌜ Replaced (now (m .entry)) (now (m .exit)) 0 (union (bit-at (now (m .entry)) 0) (bit-at (now (n .entry)) 0)) ⌝ }
+{
+    sized_row(*m);
+    for k in 0..ROW_WORDS {
+        m[k] = m[k] | n[k];
     }
 }
 

@@ -11,11 +11,9 @@ use lib.Seq.{take-suc, length-take-le, getD-set-same, getD-set-other}
 use lib.Dec.{leb}
 use Rattle.theory.specs.Lists.{sum}
 use Rattle.theory.specs.History.{count}
-use Rattle.theory.specs.Deck.{Step}
-use Rattle.book.specs.Format.{kind-limit, position-limit, run-limit, run-step-limit, step-limit, pair, run, step, cut, done, effect, last, lengths, above-pair, above-cut}
-use Rattle.book.specs.Book.{book-of-tables, pairs-size, cuts-size, run-cuts, code-limit, set-pairs, set-runs, set-cuts, set-history, flagged, pair-of, cut-of, step-coded, as-step, contents-of, Flags, RunsValid, HistoryValid, Valid, Represents}
+use Rattle.book.specs.Format.{kind-limit, run-limit, run-step-limit, step-limit, pair, run, step, cut, done, effect, last, lengths, above-pair, above-cut}
+use Rattle.book.specs.Book.{book-of-tables, pairs-size, cuts-size, run-cuts, code-limit, set-pairs, set-runs, set-cuts, set-history, flagged, pair-of, cut-of, step-coded, contents-of, Flags, RunsValid, HistoryValid, Valid, Represents}
 use Rattle.book.specs.inner.Room.{Next, RoomFlag, RoomStep, RoomDone}
-use Rattle.book.specs.declared.Step.{Step as StepValue}
 use Rattle.book.specs.declared.Book.{Book}
 use Rattle.theory.proofs.Lists.{take-more, take-last, take-last-set, getD-front, sum-snoc, sum-set, sum-le, sum-lt, count-snoc, map-snoc}
 use Rattle.book.proofs.Groups.{last-snoc, lengths-runs, length-lengths, runs-snoc, runs-more, flagged-more, flags-set, column-set, column-more, above-pair-index, above-cut-index}
@@ -150,17 +148,7 @@ represents-run b r v h = record {
 }
 
 -- a step more in the last run
-abbrev pub code-of : StepValue → ℕ
-code-of x = x .kind * position-limit + x .position
-
--- its code is that of the step
-coded-back : (x : StepValue) → x .position < position-limit → step-coded (code-of x) ≡ as-step x
-coded-back x h = same (omega arith) (omega arith)
-  where
-    same : {k k′ p p′ : ℕ} → k ≡ k′ → p ≡ p′ → _≡_ {A = Step} (record { kind = k; position = p }) (record { kind = k′; position = p′ })
-    same e f = rw (e, f)
-
-module _ (ls ss : List ℕ) (d t : ℕ) (x : StepValue) (v : RunsValid ls ss d t) (m : RoomStep ls d t x) where
+module _ (ls ss : List ℕ) (d t c : ℕ) (v : RunsValid ls ss d t) (m : RoomStep ls d t c) where
   abbrev last-length : ℕ
   last-length = getD ls (d - 1) 0
 
@@ -171,16 +159,13 @@ module _ (ls ss : List ℕ) (d t : ℕ) (x : StepValue) (v : RunsValid ls ss d t
   lengths-after = set ls (d - 1) (last-length + 1)
 
   abbrev codes-after : List ℕ
-  codes-after = set ss t (code-of x)
+  codes-after = set ss t c
 
   lengths-step : take d lengths-after ≡ lengths-before ++ (last-length + 1) ∷ []
   lengths-step = take-last-set ls d _ (m .declared) (omega (arith, v .lengths .long, v .few-runs))
 
-  steps-step : map step-coded (take (t + 1) codes-after) ≡ map step-coded (take t ss) ++ as-step x ∷ []
-  steps-step =
-      ap (map step-coded) (take-more ss t (code-of x) (omega (arith, v .steps .long, m .few)))
-      ∙ map-snoc step-coded (take t ss) (code-of x)
-      ∙ ap (λ (y : Step). map step-coded (take t ss) ++ y ∷ []) (coded-back x (m .position-low))
+  steps-step : map step-coded (take (t + 1) codes-after) ≡ map step-coded (take t ss) ++ step-coded c ∷ []
+  steps-step = ap (map step-coded) (take-more ss t c (omega (arith, v .steps .long, m .few))) ∙ map-snoc step-coded (take t ss) c
 
   sum-before : sum lengths-before + last-length ≡ t
   sum-before = sym (sum-snoc lengths-before last-length) ∙ ap sum (sym (lengths-last ls ss d t v (m .declared))) ∙ v .total
@@ -188,7 +173,7 @@ module _ (ls ss : List ℕ) (d t : ℕ) (x : StepValue) (v : RunsValid ls ss d t
   runs-step : RunsValid lengths-after codes-after d (t + 1)
   runs-step = record {
     lengths = column-set run-limit (suc run-step-limit) d ls (d - 1) (last-length + 1) d (v .lengths) (omega (arith, m .declared)) (omega arith) (omega (arith, m .short));
-    steps = column-set step-limit code-limit t ss t (code-of x) (t + 1) (v .steps) (omega arith) (omega arith) (omega (arith, m .kind-low, m .position-low));
+    steps = column-set step-limit code-limit t ss t c (t + 1) (v .steps) (omega arith) (omega arith) (m .low);
     few-runs = v .few-runs;
     few-steps = omega (arith, m .few);
     total = ap sum lengths-step ∙ sum-snoc lengths-before _ ∙ omega (arith, sum-before);
@@ -202,11 +187,11 @@ module _ (ls ss : List ℕ) (d t : ℕ) (x : StepValue) (v : RunsValid ls ss d t
       go (yes e) = rw (e, getD-set-same ls (d - 1) (last-length + 1) 0 (omega (arith, v .lengths .long, v .few-runs, m .declared))) (omega (arith, ap (λ (i : ℕ). getD ls i 0) e))
       go (no n) = rw (getD-set-other ls (d - 1) r (last-length + 1) 0 n) l
 
-abbrev pub with-step : Book → StepValue → Book
-with-step b x = set-runs b (set (b .lengths) (b .declared - 1) (getD (b .lengths) (b .declared - 1) 0 + 1)) (set (b .steps) (b .total) (code-of x)) (b .declared) (b .total + 1)
+abbrev pub with-step : Book → ℕ → Book
+with-step b c = set-runs b (set (b .lengths) (b .declared - 1) (getD (b .lengths) (b .declared - 1) 0 + 1)) (set (b .steps) (b .total) c) (b .declared) (b .total + 1)
 
-module _ (b : Book) (x : StepValue) (v : Valid b) (m : RoomStep (b .lengths) (b .declared) (b .total) x) where
-  pub represents-step : Represents (effect (step (as-step x)) (contents-of b)) (with-step b x)
+module _ (b : Book) (c : ℕ) (v : Valid b) (m : RoomStep (b .lengths) (b .declared) (b .total) c) where
+  pub represents-step : Represents (effect (step (step-coded c)) (contents-of b)) (with-step b c)
   unfolding contents-of
   represents-step =
       let ls = b .lengths in
@@ -214,14 +199,14 @@ module _ (b : Book) (x : StepValue) (v : Valid b) (m : RoomStep (b .lengths) (b 
       let d = b .declared in
       let t = b .total in
       record {
-        contents = rw (lengths-step ls ss d t x (v .runs) m, steps-step ls ss d t x (v .runs) m, lengths-last ls ss d t (v .runs) (m .declared))
-            (rw (runs-more (take (d - 1) ls) (getD ls (d - 1) 0) (map step-coded (take t ss)) (as-step x) (sum-before ls ss d t x (v .runs) m ∙ sym (codes-long ls ss d t (v .runs)))));
-        valid = valid-runs b _ _ _ _ v (runs-step ls ss d t x (v .runs) m) (record {
+        contents = rw (lengths-step ls ss d t c (v .runs) m, steps-step ls ss d t c (v .runs) m, lengths-last ls ss d t (v .runs) (m .declared))
+            (rw (runs-more (take (d - 1) ls) (getD ls (d - 1) 0) (map step-coded (take t ss)) (step-coded c) (sum-before ls ss d t c (v .runs) m ∙ sym (codes-long ls ss d t (v .runs)))));
+        valid = valid-runs b _ _ _ _ v (runs-step ls ss d t c (v .runs) m) (record {
           history = v .history .history;
           long = v .history .long;
           total = v .history .total;
           counts = v .history .counts;
-          within = λ r. within-step ls ss d t x (v .runs) m (getD (b .counts) r 0) r (v .history .within r);
+          within = λ r. within-step ls ss d t c (v .runs) m (getD (b .counts) r 0) r (v .history .within r);
         });
       }
 

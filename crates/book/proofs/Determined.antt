@@ -10,10 +10,11 @@ use lib.Seq.{ext-getD}
 use Rattle.theory.specs.Lists.{sum}
 use Rattle.theory.specs.History.{count}
 use Rattle.theory.specs.Deck.{Pair, Step, Cut}
-use Rattle.book.specs.Format.{kind-limit, position-limit, run-limit, run-step-limit, step-limit, Contents, lengths}
+use Rattle.book.specs.Format.{kind-limit, run-limit, run-step-limit, step-limit, Contents, lengths}
 use Rattle.book.specs.Book.{book-of-tables, run-cuts, code-limit, flagged, pair-of, cut-of, step-coded, runs-of-lengths, contents-of, Column, Valid}
 use Rattle.book.specs.declared.Book.{Book}
 use Rattle.theory.proofs.Lists.{getD-front}
+use Rattle.book.proofs.Codes.{code-of-step, code-back}
 use Rattle.book.proofs.Books.{codes-long, lengths-are, runs-are, sum-is, history-is, history-long}
 
 -- a list is known by its images under a map that can be turned back
@@ -70,12 +71,12 @@ module _ (b : Book) (v : Valid b) where
   unfolding contents-of
   cuts-back = map-back cut-of (λ c. c .of-run * run-cuts + c .after * run-limit + c .seen-by) (λ i. omega arith) (flagged 0 (b .cuts))
 
-  steps-back : map (λ (x : Step). x .kind * position-limit + x .position) (joined (contents-of b .runs)) ≡ take (b .total) (b .steps)
+  steps-back : map code-of-step (joined (contents-of b .runs)) ≡ take (b .total) (b .steps)
   unfolding contents-of
   steps-back =
-      ap (map (λ (x : Step). x .kind * position-limit + x .position))
+      ap (map code-of-step)
       (joined-runs (take (b .declared) (b .lengths)) (map step-coded (take (b .total) (b .steps))) (v .runs .total ∙ sym (codes-long (b .lengths) (b .steps) (b .declared) (b .total) (v .runs))))
-      ∙ map-back step-coded (λ x. x .kind * position-limit + x .position) (λ i. omega arith) (take (b .total) (b .steps))
+      ∙ map-back step-coded code-of-step code-back (take (b .total) (b .steps))
 
 same-book : {ps ps′ cs cs′ ss ss′ ls ls′ ns ns′ h h′ : List ℕ} {d d′ t t′ k k′ : ℕ} → ps ≡ ps′ → cs ≡ cs′ → ss ≡ ss′ → ls ≡ ls′ → ns ≡ ns′ → h ≡ h′ → d ≡ d′ → t ≡ t′ → k ≡ k′
     → book-of-tables ps cs ss ls ns h d t k ≡ book-of-tables ps′ cs′ ss′ ls′ ns′ h′ d′ t′ k′
@@ -104,7 +105,7 @@ module _ (a b : Book) (v : Valid a) (w : Valid b) (e : contents-of a ≡ content
 
   same-steps : a .steps ≡ b .steps
   same-steps = column-same step-limit code-limit (a .total) (a .steps) (b .steps) (v .runs .steps) (rw same-total (w .runs .steps))
-      (sym (steps-back a v) ∙ ap (λ (d : Contents). map (λ (x : Step). x .kind * position-limit + x .position) (joined (d .runs))) e ∙ steps-back b w ∙ rw same-total)
+      (sym (steps-back a v) ∙ ap (λ (d : Contents). map code-of-step (joined (d .runs))) e ∙ steps-back b w ∙ rw same-total)
 
   same-lengths : a .lengths ≡ b .lengths
   same-lengths = column-same run-limit (suc run-step-limit) (a .declared) (a .lengths) (b .lengths) (v .runs .lengths) (rw same-declared (w .runs .lengths))

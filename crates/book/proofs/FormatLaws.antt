@@ -9,7 +9,8 @@ use borrow.Author.Tests.{ltb-true, leb-true, eqb-true, lt-ltb, le-leb}
 use lib.ListN.{length, getD, drop, length-drop, length-append, drop-of-length-le}
 use lib.Seq.{drop-cons, getD-drop}
 use lib.Dec.{ltb, leb, eqb}
-use Rattle.book.specs.Format.{Contents, Outcome, refused, accepted, pick, byte, Bytes, Command, pair, run, step, cut, done, command-bytes, width, group-of, operand-tests, Test, test, ReadState, Move, over, check, checks, command-tests, next-state, obeyed, pair-at, run-at, step-at, cut-at, done-at, obey, end-at, command-at, follow, start}
+use Rattle.book.specs.Format.{Contents, Outcome, refused, accepted, pick, byte, Bytes, Command, pair, run, step, cut, done, command-bytes, width, group-of, operand-tests, Test, test, ReadState, Move, over, check, checks, command-tests, next-state, obeyed, pair-at, run-at, single-at, transfer-at, cut-at, done-at, obey, end-at, command-at, follow, start}
+use Rattle.theory.specs.Deck.{single, transfer}
 use Rattle.book.specs.declared.Rules.{Rules}
 use Rattle.book.specs.declared.Cause.{Cause}
 use Rattle.book.specs.declared.Cause.the-variants.{EndsEarly, NoCommand, BytesAfterEnd}
@@ -18,7 +19,8 @@ use Rattle.book.proofs.Ladder.{Holds, checks-hold}
 pub width-positive : (c : Command) → 0 < width c
 width-positive (pair p) = omega arith
 width-positive (run r) = omega arith
-width-positive (step x) = omega arith
+width-positive (step (single t)) = omega arith
+width-positive (step (transfer t u)) = omega arith
 width-positive (cut c) = omega arith
 width-positive (done r) = omega arith
 
@@ -26,7 +28,8 @@ width-positive (done r) = omega arith
 abbrev pub offers : Rules → Command → Bool
 offers ρ (pair p) = true
 offers ρ (run r) = true
-offers ρ (step x) = true
+offers ρ (step (single t)) = true
+offers ρ (step (transfer t u)) = ρ .«has_transfers»
 offers ρ (cut c) = ρ .«has_cuts»
 offers ρ (done r) = true
 
@@ -70,15 +73,22 @@ module _ (ρ : Rules) (s rest : List ℕ) (at : ℕ) (t : ReadState) where
   begun : (c : Command) → drop at s ≡ command-bytes c ++ rest → ltb at (length s) ≡ true
   begun c d = lt-ltb at (length s) (omega (arith, width-positive c, length-at s _ at d, length-append (command-bytes c) rest))
 
+  -- a position, of its two bytes
+  joined : (p : ℕ) → p / 256 * 256 + p % 256 ≡ p
+  joined p = omega arith
+
   pub command-read : (c : Command) → Permitted ρ t c → drop at s ≡ command-bytes c ++ rest → command-at ρ s at t ≡ obeyed c at t
   unfolding command-at
   command-read (pair p) h d =
       rw (begun (pair p) d, first-byte s _ at d) (obey-read pair-at (pair p) (rw (byte-at s _ at d 1, byte-at s _ at d 2)) h d)
   command-read (run r) h d =
       rw (begun (run r) d, first-byte s _ at d) (obey-read run-at (run r) (rw (byte-at s _ at d 1)) h d)
-  command-read (step x) h d =
-      let e : x .position / 256 * 256 + x .position % 256 ≡ x .position = omega arith in
-      rw (begun (step x) d, first-byte s _ at d) (obey-read step-at (step x) (rw (byte-at s _ at d 1, byte-at s _ at d 2, byte-at s _ at d 3, e)) h d)
+  command-read (step (single t)) h d =
+      rw (begun (step (single t)) d, first-byte s _ at d) (obey-read single-at (step (single t)) (rw (byte-at s _ at d 1, byte-at s _ at d 2, byte-at s _ at d 3, joined (t .position))) h d)
+  command-read (step (transfer t u)) h d =
+      rw (begun (step (transfer t u)) d, first-byte s _ at d) (checks-hold (test (ρ .«has_transfers») NoCommand ∷ []) at _ (h .offered, tt)
+      ∙ obey-read transfer-at (step (transfer t u))
+      (rw (byte-at s _ at d 1, byte-at s _ at d 2, byte-at s _ at d 3, byte-at s _ at d 4, byte-at s _ at d 5, byte-at s _ at d 6, joined (t .position), joined (u .position))) h d)
   command-read (cut c) h d =
       rw (begun (cut c) d, first-byte s _ at d) (checks-hold (test (ρ .«has_cuts») NoCommand ∷ []) at _ (h .offered, tt) ∙ obey-read cut-at (cut c) (rw (byte-at s _ at d 1, byte-at s _ at d 2, byte-at s _ at d 3)) h d)
   command-read (done r) h d =
@@ -166,11 +176,18 @@ module _ (ρ : Rules) (s : List ℕ) (bytes : Bytes s) (at : ℕ) (t : ReadState
       b
       (h .1)
 
-  step-next : byte s at ≡ 0x53 → at + 4 ≤ length s → drop at s ≡ command-bytes (step-at s at) ++ drop (at + 4) s
-  step-next b l =
-      let high : (byte s (at + 2) * 256 + byte s (at + 3)) / 256 ≡ byte s (at + 2) = omega (arith, bytes (at + 3)) in
-      let low : (byte s (at + 2) * 256 + byte s (at + 3)) % 256 ≡ byte s (at + 3) = omega (arith, bytes (at + 3)) in
-      rw (high, low) (drop-command s at 0x53 3 b l)
+  -- the two bytes of a position
+  high : (i j : ℕ) → (byte s i * 256 + byte s j) / 256 ≡ byte s i
+  high i j = omega (arith, bytes j)
+
+  low : (i j : ℕ) → (byte s i * 256 + byte s j) % 256 ≡ byte s j
+  low i j = omega (arith, bytes j)
+
+  single-next : byte s at ≡ 0x53 → at + 4 ≤ length s → drop at s ≡ command-bytes (single-at s at) ++ drop (at + 4) s
+  single-next b l = rw (high (at + 2) (at + 3), low (at + 2) (at + 3)) (drop-command s at 0x53 3 b l)
+
+  transfer-next : byte s at ≡ 0x54 → at + 7 ≤ length s → drop at s ≡ command-bytes (transfer-at s at) ++ drop (at + 7) s
+  transfer-next b l = rw (high (at + 2) (at + 3), low (at + 2) (at + 3), high (at + 5) (at + 6), low (at + 5) (at + 6)) (drop-command s at 0x54 6 b l)
 
   end-next : at < length s → byte s at ≡ 0x45 → follow (end-at ρ s at t) f ≡ accepted d → Goes ρ s at t f d
   unfolding end-at
@@ -185,9 +202,11 @@ module _ (ρ : Rules) (s : List ℕ) (bytes : Bytes s) (at : ℕ) (t : ReadState
       let h = check-passed f d (ltb at (length s)) EndsEarly at _ e in
       branch f d (byte s at) 0x43 (obey pair-at ρ s at t) _ (h .1) (λ b. obey-next pair-at refl (drop-command s at 0x43 2 b)) (λ e.
       branch f d (byte s at) 0x52 (obey run-at ρ s at t) _ e (λ b. obey-next run-at refl (drop-command s at 0x52 1 b)) (λ e.
-      branch f d (byte s at) 0x53 (obey step-at ρ s at t) _ e (λ b. obey-next step-at refl (step-next b)) (λ e.
+      branch f d (byte s at) 0x53 (obey single-at ρ s at t) _ e (λ b. obey-next single-at refl (single-next b)) (λ e.
+      branch f d (byte s at) 0x54 (check (ρ .«has_transfers») NoCommand at (obey transfer-at ρ s at t)) _ e
+      (λ b e. let c = check-passed f d (ρ .«has_transfers») NoCommand at (obey transfer-at ρ s at t) e in obey-next transfer-at (c .0) (transfer-next b) (c .1)) (λ e.
       branch f d (byte s at) 0x42 (check (ρ .«has_cuts») NoCommand at (obey cut-at ρ s at t)) _ e
       (λ b e. let c = check-passed f d (ρ .«has_cuts») NoCommand at (obey cut-at ρ s at t) e in obey-next cut-at (c .0) (drop-command s at 0x42 3 b) (c .1)) (λ e.
       branch f d (byte s at) 0x48 (obey done-at ρ s at t) _ e (λ b. obey-next done-at refl (drop-command s at 0x48 1 b)) (λ e.
       branch f d (byte s at) 0x45 (end-at ρ s at t) _ e (end-next (ltb-true at (length s) (h .0))) (λ e.
-      not-accepted NoCommand at d e))))))
+      not-accepted NoCommand at d e)))))))

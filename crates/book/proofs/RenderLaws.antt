@@ -7,9 +7,9 @@ use borrow.Author.Tests.{ltb-true, eqb-true}
 use lib.ListN.{length, length-append}
 use Rattle.buffer.specs.Each.{each}
 use Rattle.buffer.proofs.EachLaws.{each-append, each-snoc, each-length, each-map}
-use Rattle.theory.specs.Deck.{Step}
+use Rattle.theory.specs.Deck.{Step, single, transfer}
 use Rattle.theory.specs.Lists.{sum}
-use Rattle.book.specs.Format.{Contents, Command, pair, run, step, cut, done, command-bytes, add-last, operand-tests, ReadState, next-state, lengths}
+use Rattle.book.specs.Format.{Contents, Command, pair, run, step, cut, done, step-bytes, command-bytes, add-last, operand-tests, ReadState, next-state, lengths}
 use Rattle.book.specs.Render.{run-commands, commands-of, render}
 use Rattle.book.specs.declared.Rules.{Rules}
 use Rattle.book.proofs.FormatLaws.{Permitted, WellFormed, empty, more}
@@ -71,11 +71,20 @@ each-of f k h xs = ap length (each-map command-bytes f xs) ∙ each-length (λ x
 length-both : (cs ds : List Command) → length (each command-bytes (cs ++ ds)) ≡ length (each command-bytes cs) + length (each command-bytes ds)
 length-both cs ds = ap length (each-append command-bytes cs ds) ∙ length-append (each command-bytes cs) (each command-bytes ds)
 
-length-runs : (i : ℕ) (rs : List (List Step)) → length (each command-bytes (run-commands i rs)) ≡ 2 * length rs + 4 * sum (lengths rs)
-length-runs i [] = refl
-length-runs i (r ∷ rs) = omega (arith, length-both (map step r) (run-commands (suc i) rs), each-of step 4 (λ x. refl) r, length-runs (suc i) rs)
+-- a step has seven bytes at most
+length-step : (x : Step) → length (step-bytes x) ≤ 7
+length-step (single t) = omega arith
+length-step (transfer t u) = omega arith
 
-pub length-render : (d : Contents) → length (render d) ≡ 3 * length (d .pairs) + (2 * length (d .runs) + 4 * sum (lengths (d .runs))) + 4 * length (d .cuts) + 2 * length (d .history) + 1
+length-steps : (xs : List Step) → length (each command-bytes (map step xs)) ≤ 7 * length xs
+length-steps [] = zero-le
+length-steps (x ∷ xs) = omega (arith, length-append (step-bytes x) (each command-bytes (map step xs)), length-step x, length-steps xs)
+
+length-runs : (i : ℕ) (rs : List (List Step)) → length (each command-bytes (run-commands i rs)) ≤ 2 * length rs + 7 * sum (lengths rs)
+length-runs i [] = zero-le
+length-runs i (r ∷ rs) = omega (arith, length-both (map step r) (run-commands (suc i) rs), length-steps r, length-runs (suc i) rs)
+
+pub length-render : (d : Contents) → length (render d) ≤ 3 * length (d .pairs) + (2 * length (d .runs) + 7 * sum (lengths (d .runs))) + 4 * length (d .cuts) + 2 * length (d .history) + 1
 length-render d =
     omega (
       arith,

@@ -54,7 +54,7 @@ lengths-snoc : (rs : List (List Step)) → sum (lengths (rs ++ [] ∷ [])) ≡ s
 lengths-snoc [] = refl
 lengths-snoc (r ∷ rs) = rw (lengths-snoc rs)
 
-sum-last : (rs : List (List Step)) (x : Step) → 0 < length rs → sum (lengths (add-last rs x)) ≡ suc (sum (lengths rs))
+pub sum-last : (rs : List (List Step)) (x : Step) → 0 < length rs → sum (lengths (add-last rs x)) ≡ suc (sum (lengths rs))
 sum-last [] x h = absurd (omega arith)
 sum-last (r ∷ []) x h = omega (arith, length-append r (x ∷ []))
 sum-last (r ∷ q ∷ qs) x h = omega (arith, sum-last (q ∷ qs) x (omega arith))
@@ -155,6 +155,6 @@ history-short (x ∷ k) ns w =
       sum-lt (rest ns k x w) ns x (λ r. s r (ℕ-discrete r x) .1) (omega (arith, one ns k x w, same ns k x w)),
     )
 
--- at most 9,761 bytes
+-- at most 10,145 bytes
 pub render-short : (ρ : Rules) (d : Contents) → ρ .«step_limit» ≤ step-limit → Few ρ d → Allowed (d .history) d → length (render d) ≤ length-limit
 render-short ρ d l m w = omega (arith, length-render d, history-short (d .history) (lengths (d .runs)) w)

@@ -1,16 +1,18 @@
 -- What a `Book` means, which books are valid, group by group, and what the reader promises of the one that it hands back.
-use Prim.Native.Nat.{ℕ, suc, _*_, _/_, _%_, _≤_, _<_}
+use Prim.Native.Nat.{ℕ, zero, suc, _+_, _*_, _/_, _%_, _≤_, _<_}
 use mathlib.Core.Path.{_≡_}
 use mathlib.Core.List.{List, [], _∷_, map}
 use lib.ListN.{length, getD, take, drop, replicate}
 use lib.Dec.{eqb}
 use Rattle.theory.specs.Lists.{sum}
 use Rattle.theory.specs.History.{count}
-use Rattle.theory.specs.Deck.{Pair, Step, Cut}
+use Rattle.theory.specs.Deck.{Pair, Touch, Step, single, transfer, Cut}
 use Rattle.book.specs.Format.{Contents, contents, Outcome, refused, accepted, kind-limit, position-limit, run-limit, run-step-limit, step-limit, length-limit, pick}
 use Rattle.book.specs.declared.Rules.{Rules}
 use Rattle.book.specs.declared.Cause.{Cause}
+use Rattle.book.specs.declared.Touch.{Touch as TouchValue}
 use Rattle.book.specs.declared.Step.{Step as StepValue}
+use Rattle.book.specs.declared.Step.the-variants.{Single, Transfer}
 use Rattle.book.specs.declared.Book.{Book}
 use Rattle.book.specs.declared.Answer.{Answer}
 use Rattle.book.specs.declared.Answer.the-variants.{Refused, Accepted}
@@ -53,23 +55,45 @@ cuts-size = run-limit * run-step-limit * run-limit
 abbrev pub run-cuts : ℕ
 run-cuts = run-step-limit * run-limit
 
--- the codes of steps are below this
-abbrev pub code-limit : ℕ
-code-limit = kind-limit * position-limit
+-- the codes of touches, and of steps, are below these
+abbrev pub touch-limit : ℕ
+touch-limit = kind-limit * position-limit
 
--- the pair and the cut of an index, and the step of a code
+abbrev pub code-limit : ℕ
+code-limit = (touch-limit + 1) * touch-limit
+
+-- the pair and the cut of an index
 abbrev pub pair-of : ℕ → Pair
 pair-of i = record { a = i / kind-limit; b = i % kind-limit }
 
 abbrev pub cut-of : ℕ → Cut
 cut-of i = record { of-run = i / run-cuts; after = i % run-cuts / run-limit; seen-by = i % run-limit }
 
-abbrev pub step-coded : ℕ → Step
-step-coded c = record { kind = c / position-limit; position = c % position-limit }
+-- the touch of a code, and the step of a code: c is 0 for a single one, or one more than the code of a transfer's second touch
+abbrev pub touch-coded : ℕ → Touch
+touch-coded c = record { kind = c / position-limit; position = c % position-limit }
 
--- the step that a value of the code's type is
+abbrev pub step-with : Touch → ℕ → Step
+step-with t zero = single t
+step-with t (suc c) = transfer t (touch-coded c)
+
+abbrev pub step-coded : ℕ → Step
+step-coded c = step-with (touch-coded (c % touch-limit)) (c / touch-limit)
+
+-- the touch and the step that a value of the code's type is, and their codes
+abbrev pub as-touch : TouchValue → Touch
+as-touch t = record { kind = t .kind; position = t .position }
+
 abbrev pub as-step : StepValue → Step
-as-step x = record { kind = x .kind; position = x .position }
+as-step (Single t) = single (as-touch t)
+as-step (Transfer t u) = transfer (as-touch t) (as-touch u)
+
+abbrev pub touch-code : TouchValue → ℕ
+touch-code t = t .kind * position-limit + t .position
+
+abbrev pub step-code : StepValue → ℕ
+step-code (Single t) = touch-code t
+step-code (Transfer t u) = (touch-code u + 1) * touch-limit + touch-code t
 
 -- the steps divided into runs of these lengths
 abbrev pub runs-of-lengths : List ℕ → List Step → List (List Step)

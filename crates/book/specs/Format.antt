@@ -1,15 +1,15 @@
 -- The format of a deck book, as one function from a list of bytes to an outcome: refused with cause and place, or accepted with the
--- book's contents (document 01, "Deck book" and "When something is turned away"). Each command has its bytes, its effect and a table of
+-- book's contents (document 01, "Deck book" and "When something is turned away"; document 02, change 6). Each command has its bytes, its effect and a table of
 -- tests in the documents' order (TestOrder); the first that fails refuses. The format is over its rules: the limits of steps and bytes, and the
 -- commands that not every dialect has.
 use Prim.Native.Nat.{ℕ, zero, suc, _+_, _-_, _*_, _/_, _%_, _<_, _≤_}
 use mathlib.Core.List.{List, [], _∷_, _++_}
-use mathlib.Core.Bool.{Bool, true, false, not}
+use mathlib.Core.Bool.{Bool, true, false, _&&_, not}
 use lib.ListN.{length, getD}
 use lib.Dec.{ltb, leb, eqb}
 use Rattle.theory.specs.Lists.{sum}
 use Rattle.theory.specs.History.{count}
-use Rattle.theory.specs.Deck.{Pair, Step, Cut}
+use Rattle.theory.specs.Deck.{Pair, Touch, Step, single, transfer, Cut}
 use Rattle.book.specs.declared.Rules.{Rules}
 use Rattle.book.specs.declared.Cause.{Cause}
 use Rattle.book.specs.declared.Cause.the-variants.{BookTooLong, NoCommand, EndsEarly, OutOfOrder, WrongKind, NotRising, WrongRun, TooManyRuns, RunTooLong, TooManySteps, WrongCut, NoStepLeft, BytesAfterEnd}
@@ -66,7 +66,7 @@ length-limit = 16384
 
 -- the rules of deck books
 abbrev pub deck-rules : Rules
-deck-rules = record { «step_limit» = step-limit; «length_limit» = length-limit; «has_cuts» = true }
+deck-rules = record { «step_limit» = step-limit; «length_limit» = length-limit; «has_cuts» = true; «has_transfers» = true }
 
 abbrev pub pick : {A : Type 0} → Bool → A → A → A
 pick true a b = a
@@ -102,11 +102,20 @@ pub data Command : Type 0 where
   cut : Cut → Command
   done : ℕ → Command
 
--- 43, kinds a, b. 52, run r. 53, kind, position: two bytes, high first. 42, run r, number j, run o. 48, run r
+-- kind, position: two bytes, high first
+abbrev pub touch-bytes : Touch → List ℕ
+touch-bytes t = t .kind ∷ t .position / 256 ∷ t .position % 256 ∷ []
+
+-- 53 and a touch; 54 and two
+abbrev pub step-bytes : Step → List ℕ
+step-bytes (single t) = 0x53 ∷ touch-bytes t
+step-bytes (transfer t u) = 0x54 ∷ (touch-bytes t ++ touch-bytes u)
+
+-- 43, kinds a, b. 52, run r. 53 or 54. 42, run r, number j, run o. 48, run r
 abbrev pub command-bytes : Command → List ℕ
 command-bytes (pair p) = 0x43 ∷ p .a ∷ p .b ∷ []
 command-bytes (run r) = 0x52 ∷ r ∷ []
-command-bytes (step x) = 0x53 ∷ x .kind ∷ x .position / 256 ∷ x .position % 256 ∷ []
+command-bytes (step x) = step-bytes x
 command-bytes (cut c) = 0x42 ∷ c .of-run ∷ c .after ∷ c .seen-by ∷ []
 command-bytes (done r) = 0x48 ∷ r ∷ []
 
@@ -158,7 +167,12 @@ above-cut (p ∷ []) q =
     pick (eqb (p .of-run) (q .of-run)) (pick (eqb (p .after) (q .after)) (ltb (p .seen-by) (q .seen-by)) (ltb (p .after) (q .after))) (ltb (p .of-run) (q .of-run))
 above-cut (p ∷ p′ ∷ ps) q = above-cut (p′ ∷ ps) q
 
--- the tests of a command behind those of its bytes and its group: of its operands, of the limits, and of 53 before any 52
+-- the kind of each touch is below its limit
+abbrev pub kinds-low : Step → Bool
+kinds-low (single t) = ltb (t .kind) kind-limit
+kinds-low (transfer t u) = ltb (t .kind) kind-limit && ltb (u .kind) kind-limit
+
+-- the tests of a command behind those of its bytes and its group: of its operands, of the limits, and of 53 or 54 before any 52
 unfoldable pub operand-tests : Rules → Contents → Command → List Test
 operand-tests ρ d (pair p) =
     test (ltb (p .b) kind-limit) WrongKind
@@ -171,7 +185,7 @@ operand-tests ρ d (run r) =
     ∷ []
 operand-tests ρ d (step x) =
     test (ltb 0 (length (d .runs))) OutOfOrder
-    ∷ test (ltb (x .kind) kind-limit) WrongKind
+    ∷ test (kinds-low x) WrongKind
     ∷ test (ltb (last (lengths (d .runs))) run-step-limit) RunTooLong
     ∷ test (ltb (sum (lengths (d .runs))) (ρ .«step_limit»)) TooManySteps
     ∷ []
@@ -228,8 +242,14 @@ pair-at s at = pair (record { a = byte s (at + 1); b = byte s (at + 2) })
 abbrev pub run-at : List ℕ → ℕ → Command
 run-at s at = run (byte s (at + 1))
 
-abbrev pub step-at : List ℕ → ℕ → Command
-step-at s at = step (record { kind = byte s (at + 1); position = byte s (at + 2) * 256 + byte s (at + 3) })
+abbrev pub touch-of-bytes : ℕ → ℕ → ℕ → Touch
+touch-of-bytes kind high low = record { kind = kind; position = high * 256 + low }
+
+abbrev pub single-at : List ℕ → ℕ → Command
+single-at s at = step (single (touch-of-bytes (byte s (at + 1)) (byte s (at + 2)) (byte s (at + 3))))
+
+abbrev pub transfer-at : List ℕ → ℕ → Command
+transfer-at s at = step (transfer (touch-of-bytes (byte s (at + 1)) (byte s (at + 2)) (byte s (at + 3))) (touch-of-bytes (byte s (at + 4)) (byte s (at + 5)) (byte s (at + 6))))
 
 abbrev pub cut-at : List ℕ → ℕ → Command
 cut-at s at = cut (record { of-run = byte s (at + 1); after = byte s (at + 2); seen-by = byte s (at + 3) })
@@ -251,11 +271,12 @@ command-at ρ s at t =
     check (ltb at (length s)) EndsEarly at
     (pick (eqb (byte s at) 0x43) (obey pair-at ρ s at t)
     (pick (eqb (byte s at) 0x52) (obey run-at ρ s at t)
-    (pick (eqb (byte s at) 0x53) (obey step-at ρ s at t)
+    (pick (eqb (byte s at) 0x53) (obey single-at ρ s at t)
+    (pick (eqb (byte s at) 0x54) (check (ρ .«has_transfers») NoCommand at (obey transfer-at ρ s at t))
     (pick (eqb (byte s at) 0x42) (check (ρ .«has_cuts») NoCommand at (obey cut-at ρ s at t))
     (pick (eqb (byte s at) 0x48) (obey done-at ρ s at t)
     (pick (eqb (byte s at) 0x45) (end-at ρ s at t)
-    (over (refused NoCommand at))))))))
+    (over (refused NoCommand at)))))))))
 
 abbrev pub follow : Move → (ℕ → ReadState → Outcome) → Outcome
 follow (on at t) f = f at t

@@ -1,10 +1,10 @@
-// The deck book: its type and limits, its steps, the causes of refusal and their numbers, and the book with another history.
+// The deck book: its type and limits, its steps and their touches, the causes of refusal and their numbers, and the book with another history.
 ghost use mathlib.Core.Path.{_≡_};
 ghost use Prim.Native.Nat.{_+_, _*_, _<_};
 ghost use Rattle.theory.specs.Deck.{home};
 ghost use Rattle.book.specs.Numbers.{number};
-ghost use Rattle.book.specs.Format.{kind-limit, position-limit, run-limit, run-step-limit, step-limit, length-limit, with-history, Allowed};
-ghost use Rattle.book.specs.Book.{code-limit, step-coded, as-step, contents-of, empty-book, Valid, Represents};
+ghost use Rattle.book.specs.Format.{kind-limit, position-limit, run-limit, run-step-limit, step-limit, length-limit, kinds-low, with-history, Allowed};
+ghost use Rattle.book.specs.Book.{touch-limit, code-limit, touch-coded, step-coded, as-touch, as-step, touch-code, step-code, contents-of, empty-book, Valid, Represents};
 
 // Why something is turned away: one for each row of document 01's table and each check of document 02, change 1, two of the replay's own, and one for a
 // gate's record that is not sound.
@@ -15,7 +15,7 @@ pub enum Cause {
     NoCommand,
     // The book ends before 45 or inside operands.
     EndsEarly,
-    // A command after a later group, or 53 before any 52.
+    // A command after a later group, or 53 or 54 before any 52.
     OutOfOrder,
     // A kind above 15, or a above b.
     WrongKind,
@@ -93,29 +93,72 @@ pub struct Rules {
     pub length_limit: u16,
     // Whether 42 is a command.
     pub has_cuts: bool,
+    // Whether 54 is a command.
+    pub has_transfers: bool,
 }
 
-// A step: its kind and its position.
-pub struct Step {
+// A touch: its kind and its position.
+pub struct Touch {
     pub kind: u8,
     pub position: u16,
 }
 
-// The code of a step in a book's table.
-pub fn code_of(x: Step) -> u32
-    ensures { λ r. ⌜ r ≡ x .kind * position-limit + x .position ⌝ }
+// A step.
+pub enum Step {
+    // 53: one touch.
+    Single(Touch),
+    // 54: two touches.
+    Transfer(Touch, Touch),
+}
+
+// The code of a touch.
+fn touch_code(t: Touch) -> u64
+    ensures { λ r. ⌜ r ≡ touch-code t ⌝ }
 {
-    (x.kind as u32) * Book::POSITIONS + (x.position as u32)
+    (t.kind as u64) * Book::POSITIONS + (t.position as u64)
+}
+
+// The touch of a code.
+fn touch_coded(code: u64) -> Touch
+    requires { ⌜ code < touch-limit ⌝ }
+    ensures { λ r. ⌜ as-touch r ≡ touch-coded code ⌝ }
+{
+    Touch {
+        kind: (code / Book::POSITIONS) as u8,
+        position: (code % Book::POSITIONS) as u16,
+    }
+}
+
+// The code of a step in a book's table: of a single one that of its touch, below TOUCHES; of a transfer (that of its second touch + 1) * TOUCHES + that of its
+// first.
+pub fn code_of(x: Step) -> u64
+    ensures { λ r. ⌜ r ≡ step-code x ⌝ }
+{
+    match x {
+        Step::Single(t) => touch_code(t),
+        Step::Transfer(t, u) => (touch_code(u) + 1) * Book::TOUCHES + touch_code(t),
+    }
 }
 
 // The step of a code.
-pub fn step_coded(code: u32) -> Step
+pub fn step_coded(code: u64) -> Step
     requires { ⌜ code < code-limit ⌝ }
     ensures { λ r. ⌜ as-step r ≡ step-coded code ⌝ }
 {
-    Step {
-        kind: (code / Book::POSITIONS) as u8,
-        position: (code % Book::POSITIONS) as u16,
+    let first = touch_coded(code % Book::TOUCHES);
+    if code < Book::TOUCHES {
+        return Step::Single(first);
+    }
+    Step::Transfer(first, touch_coded(code / Book::TOUCHES - 1))
+}
+
+// Whether the kind of each touch is below its limit.
+pub fn kinds_low(x: Step) -> bool
+    ensures { λ r. ⌜ r ≡ kinds-low (as-step x) ⌝ }
+{
+    match x {
+        Step::Single(t) => wide(t.kind) < Book::KINDS,
+        Step::Transfer(t, u) => (wide(t.kind) < Book::KINDS) & (wide(u.kind) < Book::KINDS),
     }
 }
 
@@ -127,7 +170,7 @@ pub struct Book {
     // 1 at r * RUN_CUTS + j * RUNS + o for each cut in run r after its j-th step as seen by run o; else 0.
     pub cuts: [u8; Book::CUTS_SIZE],
     // The code of each step, run after run.
-    pub steps: [u32; Book::STEPS],
+    pub steps: [u64; Book::STEPS],
     // The number of steps of each run.
     pub lengths: [u8; Book::RUNS],
     // The number of done steps of each run.
@@ -147,9 +190,12 @@ impl Book {
     pub const KINDS: usize = 16;
 
     // Positions are below this.
-    pub const POSITIONS: u32 = 65536;
+    pub const POSITIONS: u64 = 65536;
 
-    // A step at this position homes: it has the same position as any other step.
+    // The codes of touches are below this.
+    pub const TOUCHES: u64 = 16 * Book::POSITIONS;
+
+    // A touch at this position homes: it has the same position as any other touch.
     pub const HOME: u16 = 65535;
 
     // The most runs.
@@ -190,10 +236,11 @@ impl Book {
     }
 }
 
-// The limits are the format's, and a step homes where the theory's does.
+// The limits are the format's, and a touch homes where the theory's does.
 fn limits()
     ensures { λ r. do ⌜ (← ⟦Book::KINDS⟧ .entry) ≡ kind-limit ⌝ }
     ensures { λ r. do ⌜ (← ⟦Book::POSITIONS⟧ .entry) ≡ position-limit ⌝ }
+    ensures { λ r. do ⌜ (← ⟦Book::TOUCHES⟧ .entry) ≡ touch-limit ⌝ }
     ensures { λ r. do ⌜ (← ⟦Book::HOME⟧ .entry) ≡ home ⌝ }
     ensures { λ r. do ⌜ (← ⟦Book::RUNS⟧ .entry) ≡ run-limit ⌝ }
     ensures { λ r. do ⌜ (← ⟦Book::RUN_STEPS⟧ .entry) ≡ run-step-limit ⌝ }

@@ -7,13 +7,15 @@ use mathlib.Core.Bool.{Bool}
 use mathlib.Core.List.{List}
 use lib.ListN.{length, take}
 use Rattle.theory.specs.Deck.{Pair, Step, conflict}
-use Rattle.theory.specs.Homing.{before-homing, WithoutHoming}
+use Rattle.theory.specs.Transfers.{before-transfers}
+use Rattle.theory.specs.Homing.{before-homing}
 use Rattle.theory.specs.Relative.{Depends}
-use Rattle.theory.proofs.DeckLaws.{homing}
+use Rattle.theory.proofs.DeckLaws.{transfers, homing}
 use Rattle.buffer.specs.Put.{Put}
-use Rattle.book.specs.Format.{Contents, Outcome, accepted, step-limit, read}
+use Rattle.book.specs.Format.{Contents, Outcome, accepted, step-limit, deck-rules, read}
 use Rattle.book.specs.Meaning.{conflict-of, unit-of}
 use Rattle.book.specs.Book.{pairs-of}
+use Rattle.book.proofs.EarlierReader.{earlier-reader}
 use Rattle.graph.specs.Marks.{Marks}
 use Rattle.judge.specs.Judged.{JudgedAs}
 use Rattle.judge.specs.Judge.{OutcomeJudged, BytesJudged}
@@ -35,7 +37,7 @@ use Rattle.gate.proofs.Records.{sound-call}
 use Rattle.gate.proofs.Chained.{opened-plain}
 use Rattle.report.specs.Text.{Report, refused-at, accepted-with, text-of}
 use Rattle.report.specs.Reporting.{FindingsBy, ReportOn, Reports}
-use Rattle.claims.specs.OldBooks.{earlier-of, ReportedBefore, ReplayedBefore, BookAsBefore, CalledBefore, RecordAsBefore, PassAsBefore, OldBooks}
+use Rattle.claims.specs.OldBooks.{earlier-of, ReportedBefore, ReplayedBefore, BookAsBefore, CalledBefore, RecordAsBefore, PassAsBefore, AsBefore, OldBooks}
 use Rattle.claims.proofs.OnePass.{one-pass}
 
 both-ways : {A : Type 0} (P : A → Type 0) {x y : A} → x ≡ y → P x ↔ P y
@@ -162,16 +164,25 @@ module _ (earlier : List Pair → List (List Step) → ℕ → ℕ → ℕ → �
     }
 
   pass-as-before : (pairs : List ℕ) (runs : List (List Step)) → conflict (pairs-of pairs) runs ≡ earlier (pairs-of pairs) runs → PassAsBefore earlier pairs runs
-  pass-as-before pairs runs same catalogue dep l c d b e p = subst (λ k. Marks (Depends k l) d) same (one-pass .each-step pairs runs catalogue dep l c d b e p .so-far)
+  pass-as-before pairs runs same catalogue seconds dep l c s d b₁ b₂ b₃ p =
+      subst (λ k. Marks (Depends k l) d) same (one-pass .each-step pairs runs catalogue seconds dep l c s d b₁ b₂ b₃ p .so-far)
 
-same-conflict : (c : Contents) → WithoutHoming (c .runs) → conflict-of c ≡ before-homing (c .pairs) (c .runs)
-same-conflict c = homing .without-homing (c .pairs) (c .runs)
+  -- where the conflict is the earlier one, all is as before
+  as-before : (Old : List (List Step) → Type 0) → ((pairs : List Pair) (runs : List (List Step)) → Old runs → conflict pairs runs ≡ earlier pairs runs) → AsBefore earlier Old
+  as-before Old same = record {
+    conflicts = λ c w. same (c .pairs) (c .runs) w;
+    by-conflict = λ c w P. both-ways P (same (c .pairs) (c .runs) w);
+    books = λ s c e w. book-as-before s c e (same (c .pairs) (c .runs) w);
+    records = λ g y w. record-as-before g y (same (book-of g .pairs) (book-of g .runs) w);
+    passes = λ pairs runs w. pass-as-before pairs runs (same (pairs-of pairs) runs w);
+  }
 
 pub old-books : OldBooks
 old-books = record {
-  conflicts = same-conflict;
-  by-conflict = λ c w P. both-ways P (same-conflict c w);
-  books = λ s c e w. book-as-before before-homing s c e (same-conflict c w);
-  records = λ g y w. record-as-before before-homing g y (same-conflict (book-of g) w);
-  passes = λ pairs runs w. pass-as-before before-homing pairs runs (homing .without-homing (pairs-of pairs) runs w);
+  without-homing = as-before before-homing _ (λ pairs runs w. homing .without-homing pairs runs (w .1) (w .0));
+  reading = earlier-reader .without-54 deck-rules;
+  by-reading = λ s n P. both-ways P (earlier-reader .without-54 deck-rules s n);
+  accepted-before = λ s c. (earlier-reader .still-accepted deck-rules s c, λ h. earlier-reader .accepted-before deck-rules s c (h .0) (h .1));
+  without-transfers = as-before before-transfers _ (transfers .without-transfers);
+  newly-accepted = earlier-reader .newly-accepted deck-rules;
 }

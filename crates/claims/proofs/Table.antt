@@ -4,16 +4,17 @@ use native.Mathlib.Nat.{le-refl, le-trans}
 use native.Mathlib.Decide.{decLe, decLt, ℕ-discrete}
 use native.Mathlib.Omega.{arith}
 use mathlib.Core.Path.{_≡_, refl, ap, sym, subst, _∙_}
-use mathlib.Core.Bool.{Bool, true, false, not, true≢false}
+use mathlib.Core.Bool.{Bool, true, false, _&&_, not, true≢false, and-false}
 use mathlib.Core.Logic.{_≢_}
 use mathlib.Core.List.{List, [], _∷_, _++_}
 use borrow.Author.Tests.{ltb-false, leb-true, leb-false, eqb-true, eqb-false, not-false, lt-ltb, le-ltb, le-leb, lt-leb, eq-eqb, ne-eqb}
 use lib.ListN.{length, getD}
 use lib.Dec.{leb, ltb, eqb}
 use Rattle.theory.specs.History.{suc-if, count}
-use Rattle.theory.specs.Deck.{Pair, Cut}
+use Rattle.theory.specs.Deck.{Pair, Touch, Step, single, transfer, Cut}
+use Rattle.theory.specs.Transfers.{TouchOf, only, first, second}
 use Rattle.theory.proofs.Lists.{count-append}
-use Rattle.book.specs.Format.{Contents, Outcome, refused, accepted, deck-rules, pick, byte, Command, pair, run, step, cut, done, width, above-pair, above-cut, operand-tests, Test, ReadState, Move, on, over, check, checks, command-tests, next-state, obeyed, obey, follow, end-at, command-at, read-from, read-commands, read-by, read, start}
+use Rattle.book.specs.Format.{Contents, Outcome, refused, accepted, deck-rules, pick, byte, Command, pair, run, step, cut, done, width, above-pair, above-cut, kinds-low, operand-tests, Test, ReadState, Move, on, over, check, checks, command-tests, next-state, obeyed, obey, follow, end-at, command-at, read-from, read-commands, read-by, read, start}
 use Rattle.book.specs.TestOrder.{test-order, book-numbers, index-of, rank, InOrder}
 use Rattle.book.specs.Numbers.{number}
 use Rattle.book.specs.declared.Cause.{Cause}
@@ -22,7 +23,7 @@ use Rattle.book.proofs.Ladder.{Fails, here, there, Holds, checks-fail, checks-h
 use Rattle.book.proofs.FormatLaws.{width-positive, not-accepted}
 use Rattle.book.proofs.TestOrder.{tested-in-order}
 use Rattle.gate.specs.Plain.{In}
-use Rattle.claims.specs.Table.{LastIs, the-last, before-last, NotAbovePair, a-below, b-not-above, NotAboveCut, r-below, j-below, o-not-above, ReadTo, from-start, behind, CommandAt, is-43, is-52, is-53, is-42, is-48, NoCommandAt, Fault, inside-operands, after-later-group, before-any-52, a-above-15, b-above-15, a-above-b, kind-above-15, pair-not-above, triple-not-above, not-the-count, cut-undeclared, viewer-undeclared, seen-by-itself, done-undeclared, run-17, step-33-of-run, step-129, after-step-0, not-below-steps, no-step-left, BookRow, book-over, no-command, before-45, at-command, after-45}
+use Rattle.claims.specs.Table.{LastIs, the-last, before-last, NotAbovePair, a-below, b-not-above, NotAboveCut, r-below, j-below, o-not-above, ReadTo, from-start, behind, CommandAt, is-43, is-52, is-53, is-54, is-42, is-48, NoCommandAt, Fault, inside-operands, after-later-group, before-any-52, a-above-15, b-above-15, a-above-b, kind-above-15, pair-not-above, triple-not-above, not-the-count, cut-undeclared, viewer-undeclared, seen-by-itself, done-undeclared, run-17, step-33-of-run, step-129, after-step-0, not-below-steps, no-step-left, BookRow, book-over, no-command, before-45, at-command, after-45}
 
 -- ---- tests in order
 
@@ -181,6 +182,21 @@ cuts-to-test the-last n = cut-to-test _ _ n
 cuts-to-test (before-last the-last) n = cut-to-test _ _ n
 cuts-to-test (before-last (before-last i)) n = cuts-to-test (before-last i) n
 
+-- ---- row 5: the test of a step's kinds fails exactly where some touch has a kind above 15
+
+kind-from-test : (x : Step) → kinds-low x ≡ false → (u : Touch) × (TouchOf x u × (15 < u .kind))
+kind-from-test (single u) e = (u, (only, ltb-false (u .kind) 16 e))
+kind-from-test (transfer u v) e = go (ltb (u .kind) 16) refl e
+  where
+    go : (b : Bool) → ltb (u .kind) 16 ≡ b → (b && ltb (v .kind) 16) ≡ false → (w : Touch) × (TouchOf (transfer u v) w × (15 < w .kind))
+    go true q e = (v, (second, ltb-false (v .kind) 16 e))
+    go false q e = (u, (first, ltb-false (u .kind) 16 q))
+
+kind-to-test : {x : Step} {u : Touch} → TouchOf x u → 15 < u .kind → kinds-low x ≡ false
+kind-to-test (only {t = u}) h = le-ltb (u .kind) 16 h
+kind-to-test (first {t = u} {u = v}) h = rw (le-ltb (u .kind) 16 h)
+kind-to-test (second {t = u} {u = v}) h = rw (le-ltb (v .kind) 16 h) (and-false (ltb (u .kind) 16))
+
 module _ (s : List ℕ) (at : ℕ) (t : ReadState) where
   -- ---- a command has a fault exactly where a test with its number fails
 
@@ -192,7 +208,7 @@ module _ (s : List ℕ) (at : ℕ) (t : ReadState) where
   operand-fault (run r) n (at-once e) = not-the-count (eqb-false _ _ e)
   operand-fault (run r) n (later (at-once e)) = run-17 (ltb-false _ _ e)
   operand-fault (step x) n (at-once e) = before-any-52 {x = x} (omega (arith, ltb-false))
-  operand-fault (step x) n (later (at-once e)) = kind-above-15 {x = x} (omega (arith, ltb-false))
+  operand-fault (step x) n (later (at-once e)) = let r = kind-from-test x e in kind-above-15 (r .1 .0) (r .1 .1)
   operand-fault (step x) n (later (later (at-once e))) = step-33-of-run (ltb-false _ _ e)
   operand-fault (step x) n (later (later (later (at-once e)))) = step-129 (ltb-false _ _ e)
   operand-fault (cut c) n (at-once e) = cut-undeclared (ltb-false _ _ e)
@@ -225,7 +241,7 @@ module _ (s : List ℕ) (at : ℕ) (t : ReadState) where
   fault-broken (a-above-15 {p} h) = a-broken p h
   fault-broken (b-above-15 {p} h) = later (later (at-once (le-ltb (p .b) 16 (omega arith))))
   fault-broken (a-above-b h) = later (later (later (at-once (lt-leb _ _ h))))
-  fault-broken (kind-above-15 {x} h) = later (later (later (at-once (le-ltb (x .kind) 16 (omega arith)))))
+  fault-broken (kind-above-15 k h) = later (later (later (at-once (kind-to-test k h))))
   fault-broken (pair-not-above i h) = later (later (later (later (at-once (pairs-to-test i h)))))
   fault-broken (triple-not-above i h) = later (later (later (later (later (later (later (at-once (cuts-to-test i h))))))))
   fault-broken (not-the-count h) = later (later (at-once (ne-eqb _ _ h)))
@@ -251,6 +267,7 @@ module _ (s : List ℕ) (at : ℕ) (t : ReadState) where
   command-there h (is-43 e) = rw (lt-ltb at (length s) h, e)
   command-there h (is-52 e) = rw (lt-ltb at (length s) h, e)
   command-there h (is-53 e) = rw (lt-ltb at (length s) h, e)
+  command-there h (is-54 e) = rw (lt-ltb at (length s) h, e)
   command-there h (is-42 e) = rw (lt-ltb at (length s) h, e)
   command-there h (is-48 e) = rw (lt-ltb at (length s) h, e)
 
@@ -269,6 +286,7 @@ module _ (s : List ℕ) (at : ℕ) (t : ReadState) where
         ne-eqb (byte s at) 0x43 (f .no-43),
         ne-eqb (byte s at) 0x52 (f .no-52),
         ne-eqb (byte s at) 0x53 (f .no-53),
+        ne-eqb (byte s at) 0x54 (f .no-54),
         ne-eqb (byte s at) 0x42 (f .no-42),
         ne-eqb (byte s at) 0x48 (f .no-48),
         ne-eqb (byte s at) 0x45 (f .no-45),
@@ -287,15 +305,17 @@ module _ (s : List ℕ) (at : ℕ) (t : ReadState) where
   abbrev Byte-is : ℕ → Type 0
   Byte-is x = Dec (byte s at ≡ x)
 
-  found-by-byte : at < length s → Byte-is 0x43 → Byte-is 0x52 → Byte-is 0x53 → Byte-is 0x42 → Byte-is 0x48 → Byte-is 0x45 → Found (command-at deck-rules s at t)
-  found-by-byte h (yes e) d₂ d₃ d₄ d₅ d₆ = found-command h (is-43 e)
-  found-by-byte h (no n₁) (yes e) d₃ d₄ d₅ d₆ = found-command h (is-52 e)
-  found-by-byte h (no n₁) (no n₂) (yes e) d₄ d₅ d₆ = found-command h (is-53 e)
-  found-by-byte h (no n₁) (no n₂) (no n₃) (yes e) d₅ d₆ = found-command h (is-42 e)
-  found-by-byte h (no n₁) (no n₂) (no n₃) (no n₄) (yes e) d₆ = found-command h (is-48 e)
-  found-by-byte h (no n₁) (no n₂) (no n₃) (no n₄) (no n₅) (yes e) = rw (end-there h e) (the-end h e)
-  found-by-byte h (no n₁) (no n₂) (no n₃) (no n₄) (no n₅) (no n₆) =
-      let f : NoCommandAt s at = record { no-43 = n₁; no-52 = n₂; no-53 = n₃; no-42 = n₄; no-48 = n₅; no-45 = n₆ } in
+  found-by-byte : at < length s → Byte-is 0x43 → Byte-is 0x52 → Byte-is 0x53 → Byte-is 0x54 → Byte-is 0x42 → Byte-is 0x48 → Byte-is 0x45
+      → Found (command-at deck-rules s at t)
+  found-by-byte h (yes e) d₂ d₃ d₄ d₅ d₆ d₇ = found-command h (is-43 e)
+  found-by-byte h (no n₁) (yes e) d₃ d₄ d₅ d₆ d₇ = found-command h (is-52 e)
+  found-by-byte h (no n₁) (no n₂) (yes e) d₄ d₅ d₆ d₇ = found-command h (is-53 e)
+  found-by-byte h (no n₁) (no n₂) (no n₃) (yes e) d₅ d₆ d₇ = found-command h (is-54 e)
+  found-by-byte h (no n₁) (no n₂) (no n₃) (no n₄) (yes e) d₆ d₇ = found-command h (is-42 e)
+  found-by-byte h (no n₁) (no n₂) (no n₃) (no n₄) (no n₅) (yes e) d₇ = found-command h (is-48 e)
+  found-by-byte h (no n₁) (no n₂) (no n₃) (no n₄) (no n₅) (no n₆) (yes e) = rw (end-there h e) (the-end h e)
+  found-by-byte h (no n₁) (no n₂) (no n₃) (no n₄) (no n₅) (no n₆) (no n₇) =
+      let f : NoCommandAt s at = record { no-43 = n₁; no-52 = n₂; no-53 = n₃; no-54 = n₄; no-42 = n₅; no-48 = n₆; no-45 = n₇ } in
       rw (no-command-there h f) (none h f)
 
   found : Found (command-at deck-rules s at t)
@@ -305,7 +325,7 @@ module _ (s : List ℕ) (at : ℕ) (t : ReadState) where
       byte-is x = ℕ-discrete (byte s at) x
 
       go : Dec (at < length s) → Found (command-at deck-rules s at t)
-      go (yes h) = found-by-byte h (byte-is 0x43) (byte-is 0x52) (byte-is 0x53) (byte-is 0x42) (byte-is 0x48) (byte-is 0x45)
+      go (yes h) = found-by-byte h (byte-is 0x43) (byte-is 0x52) (byte-is 0x53) (byte-is 0x54) (byte-is 0x42) (byte-is 0x48) (byte-is 0x45)
       go (no h) = rw (ended-there (omega arith)) (the-length (omega arith))
 
   -- ---- what is found refuses by a row, or leads on inside the book

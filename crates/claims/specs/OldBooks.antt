@@ -1,7 +1,8 @@
--- Old books without 65535 give what they gave (document 02, change 4), as a statement about the calls whose contracts speak of conflict: where no step of the
--- book homes, an answer meets the contract exactly if it meets the one by the conflict from before homing, and what a list of calls on a gate and a pass
--- over a history give is right by that conflict. The other calls (reader, writer, opening, the tests of serial and relatively atomic, the judge's second
--- call) and all refusals but 23 do not speak of conflict.
+-- Old books give what they gave: those without 65535 (document 02, change 4), and those without a 54 (change 6). Of the calls whose contracts speak of
+-- conflict: where the book's conflict is an earlier one, an answer meets the contract exactly if it meets the one by that conflict, and what a list of calls
+-- on a gate and a pass over a history give is right by it. Where no step is a transfer, it is the conflict from before transfers; where moreover none homes,
+-- that from before homing. Of reading: a book without a 54 is read as before. The other calls (reader, writer, opening, the tests of serial and relatively
+-- atomic, the judge's second call) and all refusals but 23 do not speak of conflict.
 use Prim.Native.Nat.{ℕ, _*_, _≤_}
 use mathlib.Core.Path.{_≡_}
 use mathlib.Core.Logic.{_↔_}
@@ -9,10 +10,12 @@ use mathlib.Core.Bool.{Bool}
 use mathlib.Core.List.{List, [], _++_}
 use lib.ListN.{length, drop}
 use Rattle.theory.specs.Deck.{Pair, Step}
+use Rattle.theory.specs.Transfers.{before-transfers, WithoutTransfers}
 use Rattle.theory.specs.Homing.{before-homing, WithoutHoming}
 use Rattle.theory.specs.Relative.{Depends}
 use Rattle.buffer.specs.Put.{Put}
-use Rattle.book.specs.Format.{Contents, accepted, step-limit, read}
+use Rattle.book.specs.Format.{Contents, Outcome, accepted, step-limit, deck-rules, read-by, read}
+use Rattle.book.specs.EarlierReader.{earlier as earlier-rules, Has54, RefusedBefore}
 use Rattle.book.specs.Meaning.{conflict-of, unit-of}
 use Rattle.book.specs.Book.{pairs-of}
 use Rattle.graph.specs.Marks.{Marks}
@@ -118,17 +121,39 @@ module _ (earlier : List Pair → List (List Step) → ℕ → ℕ → ℕ → �
   -- ---- a pass over a history: the rows after the steps of l
 
   abbrev pub PassAsBefore : List ℕ → List (List Step) → Type 0
-  PassAsBefore pairs runs = (catalogue dep l c d : List ℕ) → Blank catalogue → Blank dep → Fed pairs runs [] catalogue dep l c d
-      → Marks (Depends (earlier (pairs-of pairs) runs) l) d
+  PassAsBefore pairs runs = (catalogue seconds dep l c s d : List ℕ) → Blank catalogue → Blank seconds → Blank dep
+      → Fed pairs runs [] catalogue seconds dep l c s d → Marks (Depends (earlier (pairs-of pairs) runs) l) d
 
--- Old books without 65535 give what they gave.
+  -- ---- books whose runs are as Old says give what they gave
+  pub record AsBefore (Old : List (List Step) → Type 0) : Type 1 where
+    -- their conflict is the earlier one,
+    pub conflicts : (c : Contents) → Old (c .runs) → conflict-of c ≡ earlier-of c
+    -- and so is whatever is said by it, as in the contracts of the calls on a valid book: `graph::dependences`, `graph::tables`, `judge::judge_book`,
+    -- `judge::passes`, `classes::is_relatively_serial`, `classes::is_conflict_serializable`
+    pub by-conflict : (c : Contents) → Old (c .runs) → (P : (ℕ → ℕ → ℕ → ℕ → Bool) → Type 0) → P (conflict-of c) ↔ P (earlier-of c)
+    -- What the calls on bytes, those on a gate's record, and a pass over a history give
+    pub books : (s : List ℕ) (c : Contents) → read s ≡ accepted c → Old (c .runs) → BookAsBefore s c
+    pub records : (g : Gate) → Sound g → Old (book-of g .runs) → RecordAsBefore g
+    pub passes : (pairs : List ℕ) (runs : List (List Step)) → Old runs → PassAsBefore pairs runs
+
+-- no step homes, and none is a transfer: 54 was no command before homing
+abbrev pub BeforeHoming : List (List Step) → Type 0
+BeforeHoming runs = WithoutHoming runs × WithoutTransfers runs
+
+-- the reader from before transfers
+abbrev pub read-before : List ℕ → Outcome
+read-before = read-by (earlier-rules deck-rules)
+
 pub record OldBooks : Type 1 where
-  -- their conflict is the earlier one,
-  pub conflicts : (c : Contents) → WithoutHoming (c .runs) → conflict-of c ≡ before-homing (c .pairs) (c .runs)
-  -- and so is whatever is said by it, as in the contracts of the calls on a valid book: `graph::dependences`, `graph::tables`, `judge::judge_book`,
-  -- `judge::passes`, `classes::is_relatively_serial`, `classes::is_conflict_serializable`
-  pub by-conflict : (c : Contents) → WithoutHoming (c .runs) → (P : (ℕ → ℕ → ℕ → ℕ → Bool) → Type 0) → P (conflict-of c) ↔ P (before-homing (c .pairs) (c .runs))
-  -- What the calls on bytes, those on a gate's record, and a pass over a history give
-  pub books : (s : List ℕ) (c : Contents) → read s ≡ accepted c → WithoutHoming (c .runs) → BookAsBefore before-homing s c
-  pub records : (g : Gate) → Sound g → WithoutHoming (book-of g .runs) → RecordAsBefore before-homing g
-  pub passes : (pairs : List ℕ) (runs : List (List Step)) → WithoutHoming runs → PassAsBefore before-homing pairs runs
+  -- Change 4: old books without 65535 give what they gave.
+  pub without-homing : AsBefore before-homing BeforeHoming
+  -- Change 6: a book without a 54 is read as before, accepted with the same contents or refused with the same cause and place,
+  pub reading : (s : List ℕ) → ((at : ℕ) → ¬ Has54 deck-rules s at) → read s ≡ read-before s
+  -- so whatever is said of the outcome of reading, as in the refusals of every call, is as before.
+  pub by-reading : (s : List ℕ) → ((at : ℕ) → ¬ Has54 deck-rules s at) → (P : Outcome → Type 0) → P (read s) ↔ P (read-before s)
+  -- The books that were accepted are those that are and have no transfer,
+  pub accepted-before : (s : List ℕ) (c : Contents) → (read-before s ≡ accepted c) ↔ ((read s ≡ accepted c) × WithoutTransfers (c .runs))
+  -- and these give what they gave.
+  pub without-transfers : AsBefore before-transfers WithoutTransfers
+  -- The other accepted ones were refused by 2, at their first 54.
+  pub newly-accepted : (s : List ℕ) (c : Contents) → read s ≡ accepted c → ¬ WithoutTransfers (c .runs) → RefusedBefore deck-rules s

@@ -1,4 +1,4 @@
--- Document 01's table, "When something is turned away", with the checks of document 02, change 1: what is wrong, the number of that refusal, and its place.
+-- Document 01's table, "When something is turned away", with document 02's changes 1 and 6: what is wrong, the number of that refusal, and its place.
 -- First the rows of a book, then the calls' own. 24 and 25, the replay's, and 26, the gate's on a record that is not sound, follow document 01's rule for
 -- refusals added later. proofs/Table: a book is refused with a number at a place exactly where a row here says so.
 use Prim.Native.Nat.{ℕ, suc, _+_, _≤_, _<_}
@@ -9,8 +9,9 @@ use lib.ListN.{length, getD}
 use Rattle.theory.specs.Lists.{sum}
 use Rattle.theory.specs.History.{count}
 use Rattle.theory.specs.Relative.{RelativelySerializable}
-use Rattle.theory.specs.Deck.{Pair, Step, Cut}
-use Rattle.book.specs.Format.{Command, pair, run, step, cut, done, ReadState, start, next-state, byte, last, lengths, width, group-of, pair-at, run-at, step-at, cut-at, done-at}
+use Rattle.theory.specs.Deck.{Pair, Touch, Step, Cut}
+use Rattle.theory.specs.Transfers.{TouchOf}
+use Rattle.book.specs.Format.{Command, pair, run, step, cut, done, ReadState, start, next-state, byte, last, lengths, width, group-of, pair-at, run-at, single-at, transfer-at, cut-at, done-at}
 use Rattle.book.specs.TestOrder.{rank}
 use Rattle.book.specs.Meaning.{conflict-of, unit-of}
 use Rattle.gate.specs.Plain.{Call, step as step-call, withdraw as withdraw-call, In, Eligible}
@@ -38,7 +39,8 @@ module _ (s : List ℕ) where
   pub data CommandAt (at : ℕ) : Command → Type 0 where
     is-43 : byte s at ≡ 0x43 → CommandAt at (pair-at s at)
     is-52 : byte s at ≡ 0x52 → CommandAt at (run-at s at)
-    is-53 : byte s at ≡ 0x53 → CommandAt at (step-at s at)
+    is-53 : byte s at ≡ 0x53 → CommandAt at (single-at s at)
+    is-54 : byte s at ≡ 0x54 → CommandAt at (transfer-at s at)
     is-42 : byte s at ≡ 0x42 → CommandAt at (cut-at s at)
     is-48 : byte s at ≡ 0x48 → CommandAt at (done-at s at)
 
@@ -47,6 +49,7 @@ module _ (s : List ℕ) where
     pub no-43 : byte s at ≢ 0x43
     pub no-52 : byte s at ≢ 0x52
     pub no-53 : byte s at ≢ 0x53
+    pub no-54 : byte s at ≢ 0x54
     pub no-42 : byte s at ≢ 0x42
     pub no-48 : byte s at ≢ 0x48
     pub no-45 : byte s at ≢ 0x45
@@ -55,14 +58,14 @@ module _ (s : List ℕ) where
   pub data Fault (at : ℕ) (t : ReadState) : Command → ℕ → Type 0 where
     -- 3: the book ends inside operands
     inside-operands : {c : Command} → length s < at + width c → Fault at t c 3
-    -- 4: command after a later group, or 53 before any 52
+    -- 4: command after a later group, or 53 or 54 before any 52
     after-later-group : {c : Command} → group-of c < t .group → Fault at t c 4
     before-any-52 : {x : Step} → length (t .contents .runs) ≡ 0 → Fault at t (step x) 4
-    -- 5: kind above 15, or a above b
+    -- 5: kind above 15, or a above b; in 54 either kind
     a-above-15 : {p : Pair} → 15 < p .a → Fault at t (pair p) 5
     b-above-15 : {p : Pair} → 15 < p .b → Fault at t (pair p) 5
     a-above-b : {p : Pair} → p .b < p .a → Fault at t (pair p) 5
-    kind-above-15 : {x : Step} → 15 < x .kind → Fault at t (step x) 5
+    kind-above-15 : {x : Step} {u : Touch} → TouchOf x u → 15 < u .kind → Fault at t (step x) 5
     -- 6: pair or triple not above the one before
     pair-not-above : {p q : Pair} → LastIs (t .contents .pairs) q → NotAbovePair p q → Fault at t (pair p) 6
     triple-not-above : {c q : Cut} → LastIs (t .contents .cuts) q → NotAboveCut c q → Fault at t (cut c) 6
@@ -79,9 +82,9 @@ module _ (s : List ℕ) where
     not-below-steps : {c : Cut} → getD (lengths (t .contents .runs)) (c .of-run) 0 ≤ c .after → Fault at t (cut c) 9
     -- 10: 48 for a run with no step left
     no-step-left : {r : ℕ} → getD (lengths (t .contents .runs)) r 0 ≤ count (t .contents .history) r → Fault at t (done r) 10
-    -- 30: 33rd step of a run
+    -- 30: 33rd step of a run, a transfer counting as one
     step-33-of-run : {x : Step} → 32 ≤ last (lengths (t .contents .runs)) → Fault at t (step x) 30
-    -- 31: 129th step of the book
+    -- 31: 129th step of the book, a transfer counting as one
     step-129 : {x : Step} → 128 ≤ sum (lengths (t .contents .runs)) → Fault at t (step x) 31
 
   -- commands without a fault are read in turn: reading comes to this offset, and the state has the group of the last command and the contents so far

@@ -11,17 +11,21 @@ use Rattle.claims.specs.OnePass.{Fed, one-more}
 use Rattle.claims.proofs.OnePass.{one-pass}
 use Rattle.demands.specs.Results.{StepFed}
 
-module _ (pairs catalogue catalogue′ dep dep′ : List ℕ) (q r : ℕ) (x : Step) where
-  fed : StepRead pairs catalogue catalogue′ dep dep′ q r x → (runs : List (List Step)) (h c d l : List ℕ) → length l ≡ q → step-of runs r (count l r) ≡ x
-      → Fed pairs runs h c d l catalogue dep → Fed pairs runs h c d (l ++ r ∷ []) catalogue′ dep′
-  fed s runs h c d l e f p = one-more {l = l} {c = catalogue} {d = dep} {c′ = catalogue′} {d′ = dep′} {r = r} p (rw (e, f) s)
+module _ (pairs catalogue catalogue′ seconds seconds′ dep dep′ : List ℕ) (q r : ℕ) (x : Step) where
+  fed : StepRead pairs catalogue catalogue′ seconds seconds′ dep dep′ q r x → (runs : List (List Step)) (h c s d l : List ℕ) → length l ≡ q → step-of runs r (count l r) ≡ x
+      → Fed pairs runs h c s d l catalogue seconds dep → Fed pairs runs h c s d (l ++ r ∷ []) catalogue′ seconds′ dep′
+  fed y runs h c s d l e f p =
+      one-more {l = l} {c = catalogue} {s = seconds} {d = dep} {c′ = catalogue′} {s′ = seconds′} {d′ = dep′} {r = r} p (rw (e, f) y)
 
-  pub step-fed : (answer : Bool) → StepAnswered pairs catalogue catalogue′ dep dep′ q r x answer → StepFed pairs catalogue catalogue′ dep dep′ q r x answer
+  pub step-fed : (answer : Bool) → StepAnswered pairs catalogue catalogue′ seconds seconds′ dep dep′ q r x answer
+      → StepFed pairs catalogue catalogue′ seconds seconds′ dep dep′ q r x answer
   step-fed answer a = record {
     in-range = a .in-range;
     same-catalogue = a .same-catalogue;
+    same-seconds = a .same-seconds;
     same-rows = a .same-rows;
     fed = λ y. fed (a .read y);
-    each-step = λ y runs c d l e f b b′ p. one-pass .each-step pairs runs c d (l ++ r ∷ []) catalogue′ dep′ b b′ (fed (a .read y) runs [] c d l e f p);
-    unchanged = λ y runs h c d l e f p i k. one-pass .unchanged pairs runs h c d (l ++ r ∷ []) catalogue′ dep′ (fed (a .read y) runs h c d l e f p) i k;
+    each-step = λ y runs c s d l e f b₁ b₂ b₃ p.
+        one-pass .each-step pairs runs c s d (l ++ r ∷ []) catalogue′ seconds′ dep′ b₁ b₂ b₃ (fed (a .read y) runs [] c s d l e f p);
+    unchanged = λ y runs h c s d l e f p i k. one-pass .unchanged pairs runs h c s d (l ++ r ∷ []) catalogue′ seconds′ dep′ (fed (a .read y) runs h c s d l e f p) i k;
   }

@@ -106,22 +106,23 @@ pub record NestedText (s before after : List ℕ) (n : ℕ) : Type 0 where
   pub any-cuts : (s′ : List ℕ) → OtherCuts s s′ → (before′ after′ : List ℕ) (n′ : ℕ) (p′ : Reports (read s′) before′ after′ n′) (w w′ : Findings)
       → promised .report ≡ accepted-with w → p′ .report ≡ accepted-with w′ → w .conflict ≡ true → TextSaysPassed (w′ .verdict)
 
--- ---- document 02, change 3: one pass over the history
+-- ---- document 02, changes 3 and 6: one pass over the history
 
 -- where x is to be read as place q, the next step of run r, by tables that were fed the steps of l
-pub record StepFed (pairs catalogue catalogue′ dep dep′ : List ℕ) (q r : ℕ) (x : Step) (answer : Bool) : Type 0 where
-  -- the answer says whether there is such a place, run and kind; if not, nothing changes;
+pub record StepFed (pairs catalogue catalogue′ seconds seconds′ dep dep′ : List ℕ) (q r : ℕ) (x : Step) (answer : Bool) : Type 0 where
+  -- the answer says whether there is such a place, run and kind of each touch; if not, nothing changes;
   pub in-range : Answers (InRange q r x) answer
   pub same-catalogue : answer ≡ false → catalogue′ ≡ catalogue
+  pub same-seconds : answer ≡ false → seconds′ ≡ seconds
   pub same-rows : answer ≡ false → dep′ ≡ dep
   -- if so, they were fed one step more, so that the next call may follow,
-  pub fed : answer ≡ true → (runs : List (List Step)) (h c d l : List ℕ) → length l ≡ q → step-of runs r (count l r) ≡ x → Fed pairs runs h c d l catalogue dep
-      → Fed pairs runs h c d (l ++ r ∷ []) catalogue′ dep′
+  pub fed : answer ≡ true → (runs : List (List Step)) (h c s d l : List ℕ) → length l ≡ q → step-of runs r (count l r) ≡ x
+      → Fed pairs runs h c s d l catalogue seconds dep → Fed pairs runs h c s d (l ++ r ∷ []) catalogue′ seconds′ dep′
   -- the rows so far and to come are as the one pass promises, and earlier ones are unchanged
-  pub each-step : answer ≡ true → (runs : List (List Step)) (c d l : List ℕ) → length l ≡ q → step-of runs r (count l r) ≡ x → Blank c → Blank d → Fed pairs runs [] c d l catalogue dep
-      → RowsAfter pairs runs (l ++ r ∷ []) dep′
-  pub unchanged : answer ≡ true → (runs : List (List Step)) (h c d l : List ℕ) → length l ≡ q → step-of runs r (count l r) ≡ x → Fed pairs runs h c d l catalogue dep
-      → (i : ℕ) → i / row-words < length h → getD dep′ i 0 ≡ getD d i 0
+  pub each-step : answer ≡ true → (runs : List (List Step)) (c s d l : List ℕ) → length l ≡ q → step-of runs r (count l r) ≡ x → Blank c → Blank s → Blank d
+      → Fed pairs runs [] c s d l catalogue seconds dep → RowsAfter pairs runs (l ++ r ∷ []) dep′
+  pub unchanged : answer ≡ true → (runs : List (List Step)) (h c s d l : List ℕ) → length l ≡ q → step-of runs r (count l r) ≡ x
+      → Fed pairs runs h c s d l catalogue seconds dep → (i : ℕ) → i / row-words < length h → getD dep′ i 0 ≡ getD d i 0
 
 -- ---- document 02, change 5: arcs by name
 

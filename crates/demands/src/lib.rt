@@ -290,9 +290,10 @@ pub fn feed_step(
     r: usize,
     x: Step,
     catalogue: &mut Table,
+    seconds: &mut Table,
     dep: &mut Table,
 ) -> bool
-    ensures { λ answer. ⌜ StepFed (now (pairs .entry)) (now (catalogue .entry)) (now (catalogue .exit)) (now (dep .entry)) (now (dep .exit)) q r (as-step x) answer ⌝ }
+    ensures { λ answer. ⌜ StepFed (now (pairs .entry)) (now (catalogue .entry)) (now (catalogue .exit)) (now (seconds .entry)) (now (seconds .exit)) (now (dep .entry)) (now (dep .exit)) q r (as-step x) answer ⌝ }
 {
-    graph::read_step(pairs, q, r, x, catalogue, dep)
+    graph::read_step(pairs, q, r, x, catalogue, seconds, dep)
 }

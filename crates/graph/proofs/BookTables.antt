@@ -21,7 +21,7 @@ use Rattle.book.proofs.Books.{done-within}
 use Rattle.theory.specs.History.{suc-if, count, run, ordinal}
 use Rattle.theory.specs.Relative.{Depends}
 use Rattle.theory.specs.Graph.{FirstOf, LastOf, Arc}
-use Rattle.theory.specs.Deck.{Step, Cut, step-of, conflict, unit}
+use Rattle.theory.specs.Deck.{Step, no-step, Cut, step-of, conflict, unit}
 use Rattle.theory.proofs.Places.{Compared, eq-cases, ordinal-lt}
 use Rattle.graph.specs.Marks.{Marks}
 use Rattle.graph.specs.Units.{UnchangedFrom, UnitTables}
@@ -93,9 +93,6 @@ cuts-of cuts = record {
     next r o i ho hi = unit-next (flagged 0 cuts) r o i ho hi ∙ ap (λ (x : ℕ). unit (map cut-of (flagged 0 cuts)) r o i + x) (count-flagged cuts (r * run-cuts + suc i * run-limit + o))
 
 -- ---- steps
-
-abbrev no-step : Step
-no-step = record { kind = 0; position = 0 }
 
 runs-get : (ns : List ℕ) (ss : List Step) (r i : ℕ) → i < getD ns r 0 → step-of (runs-of-lengths ns ss) r i ≡ getD ss (sum (take r ns) + i) no-step
 runs-get [] ss r i h = absurd (not-suc-le-zero h)
@@ -181,28 +178,28 @@ module _ (b : Book) (v : Valid b) where
 
   -- ---- dependence
 
-  unfoldable pub book-read : (catalogue dep : List ℕ) → ReadFromCodes (b .pairs) h (b .lengths) (b .steps) catalogue dep
-      → StepsRead (contents-of b .pairs) (contents-of b .runs) (contents-of b .history) catalogue dep
+  unfoldable pub book-read : (catalogue seconds dep : List ℕ) → ReadFromCodes (b .pairs) h (b .lengths) (b .steps) catalogue seconds dep
+      → StepsRead (contents-of b .pairs) (contents-of b .runs) (contents-of b .history) catalogue seconds dep
   unfolding contents-of
-  book-read catalogue dep r = r .read (contents-of b .runs) (record { at = step-is })
+  book-read catalogue seconds dep r = r .read (contents-of b .runs) (record { at = step-is })
 
-  pub book-dependences : (catalogue dep : List ℕ) → ReadFromCodes (b .pairs) h (b .lengths) (b .steps) catalogue dep
+  pub book-dependences : (catalogue seconds dep : List ℕ) → ReadFromCodes (b .pairs) h (b .lengths) (b .steps) catalogue seconds dep
       → Marks (Depends (conflict-of (contents-of b)) (contents-of b .history)) dep
-  book-dependences catalogue dep r = book-read catalogue dep r .so-far
+  book-dependences catalogue seconds dep r = book-read catalogue seconds dep r .so-far
 
-  pub book-run-rows : (catalogue dep : List ℕ) → ReadFromCodes (b .pairs) h (b .lengths) (b .steps) catalogue dep → RunRows h (b .done) catalogue
+  pub book-run-rows : (catalogue seconds dep : List ℕ) → ReadFromCodes (b .pairs) h (b .lengths) (b .steps) catalogue seconds dep → RunRows h (b .done) catalogue
   unfolding contents-of
-  book-run-rows catalogue dep r = run-rows (contents-of b .runs) h catalogue (b .done) (history-length book-history) (book-read catalogue dep r .catalogued)
+  book-run-rows catalogue seconds dep r = run-rows (contents-of b .pairs) (contents-of b .runs) h catalogue (b .done) (history-length book-history) (book-read catalogue seconds dep r .firsts-catalogued)
 
   -- ---- arcs
 
-  pub book-tables : (catalogue dep firsts firsts′ lasts lasts′ : List ℕ) → ReadFromCodes (b .pairs) h (b .lengths) (b .steps) catalogue dep
+  pub book-tables : (catalogue seconds dep firsts firsts′ lasts lasts′ : List ℕ) → ReadFromCodes (b .pairs) h (b .lengths) (b .steps) catalogue seconds dep
       → UnitTables (unit-of (contents-of b)) (contents-of b .history) firsts firsts′ lasts lasts′
       → TablesBy (conflict-of (contents-of b)) (unit-of (contents-of b)) h dep firsts′ lasts′
   unfolding contents-of
-  book-tables catalogue dep firsts firsts′ lasts lasts′ d u = record {
+  book-tables catalogue seconds dep firsts firsts′ lasts lasts′ d u = record {
     rises = book-cuts .rises;
-    dep-marks = book-read catalogue dep d .so-far;
+    dep-marks = book-read catalogue seconds dep d .so-far;
     firsts-are = u .firsts-are;
     lasts-are = u .lasts-are;
   }

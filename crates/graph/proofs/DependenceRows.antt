@@ -1,6 +1,6 @@
 -- The dependence table, one row after another. A row takes the places on which its place directly depends, from the last down, each with what
 -- it depends on. A place that the row has already adds nothing, since with a place the row has all that the place depends on.
-use Prim.Native.Nat.{ℕ, suc, _+_, _-_, _≤_, _<_}
+use Prim.Native.Nat.{ℕ, suc, _+_, _≤_, _<_}
 use native.Mathlib.Decide.{ℕ-discrete, decLt}
 use native.Mathlib.Omega.{arith}
 use mathlib.Core.Path.{_≡_, refl, sym, ap, _∙_}
@@ -22,15 +22,16 @@ use Rattle.theory.specs.Relative.{Conflicting, DirectlyDepends, Depends, direct
 use Rattle.theory.proofs.Lists.{length-snoc}
 use Rattle.theory.proofs.Steps.{dep-inside}
 use Rattle.theory.proofs.Within.{front, front-depends, depends-front}
-use Rattle.book.specs.Format.{kind-limit, run-limit, step-limit}
+use Rattle.book.specs.Format.{run-limit, step-limit, kinds-low}
 use Rattle.book.specs.Book.{pairs-of}
 use Rattle.graph.specs.Marks.{Marks, Columns}
-use Rattle.graph.specs.Catalogue.{done-step, parts}
-use Rattle.graph.specs.Dependence.{Blank, StepsRead, StepRead, InRange, StepAnswered}
-use Rattle.graph.specs.inner.Reading.{Entered, Finds, Linked, DependsSoFar, RowFrom}
+use Rattle.graph.specs.Catalogue.{done-step, part-rows, Which, first-touches, second-touches, Catalogued}
+use Rattle.graph.specs.Dependence.{Blank, StepsRead, StepRead, KindsLow, InRange, StepAnswered}
+use Rattle.graph.specs.inner.Reading.{StepEntered, StepHas, StepFinds, Linked, DependsSoFar, RowFrom}
 use Rattle.graph.proofs.Counting.{low, clash}
 use Rattle.graph.proofs.Rows.{added-from, added}
-use Rattle.graph.proofs.Catalogue.{second-of, catalogued-more, last-run, last-step, front-step}
+use Rattle.graph.proofs.Touches.{kinds-answer}
+use Rattle.graph.proofs.Catalogue.{and-second, firsts-more, seconds-more, last-run, last-step, front-step}
 
 pub dep-trans : {conflict : ℕ → ℕ → ℕ → ℕ → Bool} {h : List ℕ} {x k q : ℕ} → Depends conflict h x k → Depends conflict h k q → Depends conflict h x q
 dep-trans e (direct d) = through e d
@@ -140,9 +141,9 @@ module _ (dep linked : List ℕ) where
 
 -- ---- one step more
 
-module _ (pairs t u dep dep′ linked m : List ℕ) (q r : ℕ) (x : Step) (hq : q < rows) (lk : x .kind < kind-limit) (f : Finds (Linked pairs r x) t linked)
-    (w : RowFrom dep linked m) (j : Replaced dep dep′ q (bit-at m 0)) (e : Entered t u q r x parts) where
-  module _ (runs : List (List Step)) (h : List ℕ) (eq : length h ≡ q) (ex : step-of runs r (count h r) ≡ x) (s : StepsRead (pairs-of pairs) runs h t dep) where
+module _ (pairs t t′ v v′ dep dep′ linked m : List ℕ) (q r : ℕ) (x : Step) (hq : q < rows) (f : StepFinds (Linked r x) t v linked)
+    (w : RowFrom dep linked m) (j : Replaced dep dep′ q (bit-at m 0)) (e : StepEntered pairs t t′ v v′ q r x) where
+  module _ (runs : List (List Step)) (h : List ℕ) (eq : length h ≡ q) (ex : step-of runs r (count h r) ≡ x) (s : StepsRead (pairs-of pairs) runs h t v dep) where
     abbrev c : ℕ → ℕ → ℕ → ℕ → Bool
     c = conflict (pairs-of pairs) runs
 
@@ -163,23 +164,26 @@ module _ (pairs t u dep dep′ linked m : List ℕ) (q r : ℕ) (x : Step) (hq :
     unfolding conflict
     conflict-is p i = rw (front-step runs h r p i, ← eq, last-step runs h r, ex, p-run p i, last-run runs h r)
 
+    found : Columns (StepHas (Linked r x (pairs-of pairs)) runs h) linked
+    found = f .columns (pairs-of pairs) runs h (s .firsts-catalogued) (s .seconds-catalogued)
+
     linked-directly : Columns (λ p. DirectlyDepends c l p q) linked
-    linked-directly = record { sound = λ p hp b. sound p (f .columns runs h (s .catalogued) .sound p hp b .inside) (f .columns runs h (s .catalogued) .sound p hp b .holds) (ℕ-discrete (run h p) r); complete = complete }
+    linked-directly = record { sound = λ p hp b. let a = found .sound p hp b in sound p (a .inside) (a .holds) (ℕ-discrete (run h p) r); complete = complete }
       where
-        sound : (p : ℕ) → p < length h → Linked pairs r x (run h p) (done-step runs h p) → Dec (run h p ≡ r) → DirectlyDepends c l p q
+        sound : (p : ℕ) → p < length h → Linked r x (pairs-of pairs) (run h p) (done-step runs h p) → Dec (run h p ≡ r) → DirectlyDepends c l p q
         sound p i a (yes z) = record { before = omega arith; inside = omega (arith, longer); linked = inl (p-run p i ∙ z ∙ sym q-run) }
         sound p i (inl z) (no n) = absurd (n z)
         sound p i (inr b) (no n) = record { before = omega arith; inside = omega (arith, longer); linked = inr (rw (conflict-is p i, ne-eqb (run h p) r n) b) }
 
         complete : (p : ℕ) → p < row-bits → DirectlyDepends c l p q → bit-at linked 0 p ≡ 1
-        complete p hp d = f .columns runs h (s .catalogued) .complete p hp (record { inside = i; holds = link (d .linked) })
+        complete p hp d = found .complete p hp (record { inside = i; holds = link (d .linked) })
           where
             i : p < length h
             i = omega (arith, d .before)
 
-            link : (run l p ≡ run l q) ⊎ Conflicting c l p q → Linked pairs r x (run h p) (done-step runs h p)
+            link : (run l p ≡ run l q) ⊎ Conflicting c l p q → Linked r x (pairs-of pairs) (run h p) (done-step runs h p)
             link (inl z) = inl (sym (p-run p i) ∙ z ∙ q-run)
-            link (inr b) = inr (second-of (not (eqb (run h p) r)) (steps-conflict (pairs-of pairs) (done-step runs h p) x) (rw (conflict-is p i) at b))
+            link (inr b) = inr (and-second (not (eqb (run h p) r)) (steps-conflict (pairs-of pairs) (done-step runs h p) x) (rw (conflict-is p i) at b))
 
     before : Marks (DependsSoFar c l q) dep
     before = record {
@@ -201,8 +205,13 @@ module _ (pairs t u dep dep′ linked m : List ℕ) (q r : ℕ) (x : Step) (hq :
         complete a y ha hy d (yes z) = let d′ : Depends c l a q = rw z at d in rw z (j .here a ha ∙ row-is .complete a ha d′)
         complete a y ha hy d (no n) = j .other y a ha n ∙ before .complete a y ha hy (record { so-far = omega (arith, dep-inside c d, longer); depends = d })
 
-    read : StepsRead (pairs-of pairs) runs l u dep′
-    read = record { so-far = so-far; to-come = blank l dep′ so-far; catalogued = catalogued-more runs h t u q r x eq ex (s .catalogued) e hq lk }
+    read : StepsRead (pairs-of pairs) runs l t′ v′ dep′
+    read = record {
+      so-far = so-far;
+      to-come = blank l dep′ so-far;
+      firsts-catalogued = firsts-more pairs runs h t t′ v v′ q r x eq ex e hq (s .firsts-catalogued);
+      seconds-catalogued = seconds-more pairs runs h t t′ v v′ q r x eq ex e hq (s .seconds-catalogued);
+    }
       where
         blank : (l dep : List ℕ) → Marks (Depends c l) dep → (a y : ℕ) → a < row-bits → length l ≤ y → y < rows → bit-at dep y a ≡ 0
         blank l dep k a y ha b hy = go (ℕ-discrete (bit-at dep y a) 1)
@@ -211,34 +220,40 @@ module _ (pairs t u dep dep′ linked m : List ℕ) (q r : ℕ) (x : Step) (hq :
             go (yes z) = absurd (omega (arith, dep-inside c (k .sound a y ha hy z)))
             go (no n) = omega (arith, bit-at-lt dep y a)
 
-  pub step-read : StepRead pairs t u dep dep′ q r x
+  pub step-read : StepRead pairs t t′ v v′ dep dep′ q r x
   step-read = record { read = read; unchanged = j .words }
 
 -- ---- the answer
 
-module _ (pairs t dep : List ℕ) (q r : ℕ) (x : Step) where
-  refused : ¬ InRange q r x → StepAnswered pairs t t dep dep q r x false
+module _ (pairs t v dep : List ℕ) (q r : ℕ) (x : Step) where
+  refused : ¬ InRange q r x → StepAnswered pairs t t v v dep dep q r x false
   refused n = record {
     in-range = record { sound = λ e. absurd (true≢false (sym e)); complete = λ i. absurd (n i) };
     read = λ e. absurd (true≢false (sym e));
     same-catalogue = λ e. refl;
+    same-seconds = λ e. refl;
     same-rows = λ e. refl;
   }
 
-  pub no-place : step-limit ≤ q → StepAnswered pairs t t dep dep q r x false
+  pub no-place : step-limit ≤ q → StepAnswered pairs t t v v dep dep q r x false
   no-place l = refused (λ i. omega (arith, i .place))
 
-  pub no-run : run-limit ≤ r → StepAnswered pairs t t dep dep q r x false
+  pub no-run : run-limit ≤ r → StepAnswered pairs t t v v dep dep q r x false
   no-run l = refused (λ i. omega (arith, i .run))
 
-  pub no-kind : (v : ℕ) → v ≡ x .kind → kind-limit ≤ v → StepAnswered pairs t t dep dep q r x false
-  no-kind v e l = refused (λ i. omega (arith, i .kind))
+  pub no-kind : (b : Bool) → b ≡ kinds-low x → b ≡ false → StepAnswered pairs t t v v dep dep q r x false
+  no-kind b a e = refused (λ i. true≢false (sym (kinds-answer x .complete (i .kinds)) ∙ sym a ∙ e))
 
-  pub answered : (u dep′ : List ℕ) (v : ℕ) → q < step-limit → r < run-limit → v ≡ x .kind → v < kind-limit → StepRead pairs t u dep dep′ q r x → StepAnswered pairs t u dep dep′ q r x true
-  answered u dep′ v hq hr e hk s = record {
-    in-range = record { sound = λ _. record { place = hq; run = hr; kind = omega arith }; complete = λ i. refl };
+  pub kinds-in : (b : Bool) → b ≡ kinds-low x → b ≡ true → KindsLow x
+  kinds-in b a e = kinds-answer x .sound (sym a ∙ e)
+
+  pub answered : (t′ v′ dep′ : List ℕ) (b : Bool) → q < step-limit → r < run-limit → b ≡ kinds-low x → b ≡ true → StepRead pairs t t′ v v′ dep dep′ q r x
+      → StepAnswered pairs t t′ v v′ dep dep′ q r x true
+  answered t′ v′ dep′ b hq hr a e s = record {
+    in-range = record { sound = λ _. record { place = hq; run = hr; kinds = kinds-in b a e }; complete = λ i. refl };
     read = λ _. s;
     same-catalogue = λ z. absurd (true≢false z);
+    same-seconds = λ z. absurd (true≢false z);
     same-rows = λ z. absurd (true≢false z);
   }
 
@@ -247,12 +262,19 @@ module _ (pairs t dep : List ℕ) (q r : ℕ) (x : Step) where
 pub blank-zeros : (n : ℕ) → Blank (replicate n 0)
 blank-zeros n = record { none = λ x y hx hy. zeros-bit n y x }
 
-pub none-read : (pairs : List Pair) (runs : List (List Step)) (t dep : List ℕ) → Blank t → Blank dep → StepsRead pairs runs [] t dep
-none-read pairs runs t dep b d = record {
+pub none-read : (pairs : List Pair) (runs : List (List Step)) (t v dep : List ℕ) → Blank t → Blank v → Blank dep → StepsRead pairs runs [] t v dep
+none-read pairs runs t v dep b c d = record {
   so-far = record { sound = λ x y hx hy e. absurd (clash (d .none x y hx hy) e); complete = λ x y hx hy k. absurd (low y (dep-inside (conflict pairs runs) k)) };
   to-come = λ x y hx l hy. d .none x y hx hy;
-  catalogued = record {
-    marks = record { sound = λ p y hp hy e. absurd (clash (b .none p y hp hy) e); complete = λ p y hp hy a. absurd (low p (a .inside)) };
-    kinds = λ p i. absurd (low p i);
-  };
+  firsts-catalogued = none first-touches t b;
+  seconds-catalogued = none second-touches v c;
 }
+  where
+    none : (w : Which) (t : List ℕ) → Blank t → Catalogued pairs w runs [] t
+    none w t b = record {
+      sound = λ p y hp hy e. absurd (clash (b .none p y hp (omega arith)) e);
+      complete = λ p y hp hy a. absurd (low p (a .inside));
+      kinds-sound = λ p k hp hk e. absurd (clash (b .none p (part-rows + k) hp (omega arith)) e);
+      kinds-complete = λ p k hp hk a. absurd (low p (a .inside));
+      no-more = λ p y hp l hy. b .none p y hp hy;
+    }

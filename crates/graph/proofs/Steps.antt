@@ -1,5 +1,5 @@
 -- The steps of a history in the table of a book's steps, one by one.
-use Prim.Native.Nat.{ℕ, suc, _+_, _-_, _/_, _≤_, _<_}
+use Prim.Native.Nat.{ℕ, zero, suc, _+_, _-_, _/_, _%_, _≤_, _<_}
 use native.Mathlib.Numerals.{add-one}
 use native.Mathlib.Decide.{ℕ-discrete}
 use native.Mathlib.Omega.{arith}
@@ -11,13 +11,14 @@ use mir.Syntax.{w8}
 use lib.ListN.{length, getD, take, set, length-set}
 use lib.Seq.{getD-set-same, getD-set-other, take-take, length-take-le}
 use Rattle.theory.specs.Lists.{sum}
-use Rattle.book.specs.Format.{position-limit, run-limit, step-limit}
-use Rattle.book.specs.Book.{code-limit, step-coded, as-step, pairs-of}
+use Rattle.book.specs.Format.{kind-limit, run-limit, step-limit}
+use Rattle.book.specs.Book.{touch-limit, code-limit, touch-coded, step-with, step-coded, as-step, pairs-of}
 use Rattle.book.specs.declared.Step.{Step as StepValue}
 use Rattle.theory.specs.History.{count, run, ordinal}
 use Rattle.theory.proofs.Lists.{count-take-lt, count-take-ne, count-take-le, take-last, sum-take, sum-take-le}
-use Rattle.theory.specs.Deck.{Step, step-of}
-use Rattle.graph.specs.Dependence.{Blank, StepsRead, StepRead}
+use Rattle.theory.specs.Deck.{Touch, Step, step-of}
+use Rattle.theory.specs.Transfers.{TouchOf, only, first, second}
+use Rattle.graph.specs.Dependence.{Blank, StepsRead, KindsLow, StepRead}
 use Rattle.graph.specs.inner.Tables.{Small, HistoryOf, Starts, RunsRoom, StepsOf, step-in, StepAt}
 use Rattle.graph.specs.inner.Reading.{ReadFromCodes}
 use Rattle.graph.proofs.Counting.{low, below-next, history-length, history-run}
@@ -54,36 +55,36 @@ pub record NextSteps (h starts next : List ℕ) (p : ℕ) : Type 0 where
   pub at : (r : ℕ) → r < run-limit → getD next r 0 ≡ getD starts r 0 + count (take p h) r
 
 -- before each turn: next, and the tables after the first q steps
-pub record ReadUpTo (pairs h lengths starts steps next catalogue dep : List ℕ) (n q : ℕ) : Type 0 where
+pub record ReadUpTo (pairs h lengths starts steps next catalogue seconds dep : List ℕ) (n q : ℕ) : Type 0 where
   pub within : q ≤ n
   pub starts-are : Starts lengths starts
   pub room : RunsRoom h lengths
   pub size : length next ≡ run-limit
   pub next-are : NextSteps h starts next q
-  pub read : (runs : List (List Step)) → StepsOf runs h lengths steps → StepsRead (pairs-of pairs) runs (take q h) catalogue dep
+  pub read : (runs : List (List Step)) → StepsOf runs h lengths steps → StepsRead (pairs-of pairs) runs (take q h) catalogue seconds dep
 
-pub read-none : (pairs h lengths starts steps catalogue dep : List ℕ) (n : ℕ) → length starts ≡ run-limit → Starts lengths starts → RunsRoom h lengths → Blank catalogue → Blank dep
-    → ReadUpTo pairs h lengths starts steps starts catalogue dep n 0
-read-none pairs h lengths starts steps catalogue dep n l s m b d = record {
+pub read-none : (pairs h lengths starts steps catalogue seconds dep : List ℕ) (n : ℕ) → length starts ≡ run-limit → Starts lengths starts → RunsRoom h lengths
+    → Blank catalogue → Blank seconds → Blank dep → ReadUpTo pairs h lengths starts steps starts catalogue seconds dep n 0
+read-none pairs h lengths starts steps catalogue seconds dep n l s m b c d = record {
   within = omega arith;
   starts-are = s;
   room = m;
   size = l;
   next-are = record { at = λ r i. omega arith };
-  read = λ runs s. none-read (pairs-of pairs) runs catalogue dep b d;
+  read = λ runs s. none-read (pairs-of pairs) runs catalogue seconds dep b c d;
 }
 
-pub read-all : (pairs history lengths starts steps next catalogue dep : List ℕ) (n q : ℕ) → ReadUpTo pairs (take n history) lengths starts steps next catalogue dep n q → n ≤ q
-    → ReadFromCodes pairs (take n history) lengths steps catalogue dep
-read-all pairs history lengths starts steps next catalogue dep n q w l =
+pub read-all : (pairs history lengths starts steps next catalogue seconds dep : List ℕ) (n q : ℕ) → ReadUpTo pairs (take n history) lengths starts steps next catalogue seconds dep n q → n ≤ q
+    → ReadFromCodes pairs (take n history) lengths steps catalogue seconds dep
+read-all pairs history lengths starts steps next catalogue seconds dep n q w l =
     let e : q ≡ n = omega (arith, w .within) in
     record { read = λ runs s. rw (e, take-take n n history (omega arith)) at (w .read runs s) }
 
 next-taken : (l : List ℕ) (q : ℕ) → q < length l → take (q + 1) l ≡ take q l ++ getD l q 0 ∷ []
 next-taken l q i = let e : q + 1 - 1 ≡ q = omega arith in rw e at (take-last l (q + 1) (omega arith) (omega arith))
 
-module _ (pairs history lengths starts steps next catalogue dep : List ℕ) (n q : ℕ) (hs : HistoryOf history n)
-    (w : ReadUpTo pairs (take n history) lengths starts steps next catalogue dep n q) (i : q < n)
+module _ (pairs history lengths starts steps next catalogue seconds dep : List ℕ) (n q : ℕ) (hs : HistoryOf history n)
+    (w : ReadUpTo pairs (take n history) lengths starts steps next catalogue seconds dep n q) (i : q < n)
     (r c : ℕ) (er : r ≡ getD history q 0) (ec : c ≡ getD next r 0) where
   inside : q < length (take n history)
   inside = rw (history-length hs) i
@@ -114,10 +115,10 @@ module _ (pairs history lengths starts steps next catalogue dep : List ℕ) (n q
     pub read-index : s < step-limit
     read-index = rw es step-inside
 
-    pub read-more : (x : StepValue) (catalogue′ dep′ : List ℕ) → StepAt steps s x → StepRead pairs catalogue catalogue′ dep dep′ q r (as-step x)
-        → ReadUpTo pairs (take n history) lengths starts steps (set next r (c + 1)) catalogue′ dep′ n (q + 1)
+    pub read-more : (x : StepValue) (catalogue′ seconds′ dep′ : List ℕ) → StepAt steps s x → StepRead pairs catalogue catalogue′ seconds seconds′ dep dep′ q r (as-step x)
+        → ReadUpTo pairs (take n history) lengths starts steps (set next r (c + 1)) catalogue′ seconds′ dep′ n (q + 1)
     unfolding ordinal
-    read-more x catalogue′ dep′ ex t = record {
+    read-more x catalogue′ seconds′ dep′ ex t = record {
       within = omega arith;
       starts-are = w .starts-are;
       room = w .room;
@@ -143,5 +144,16 @@ pub code-low : (steps : List ℕ) (i : ℕ) → Small code-limit steps → getD 
 code-low steps i s = s .small i
 
 -- the step of a code is in range
+touch-low : (c : ℕ) → c < touch-limit → touch-coded c .kind < kind-limit
+touch-low c l = omega arith
+
+coded-low : (c : ℕ) → c < code-limit → KindsLow (step-coded c)
+coded-low c l = record { low = go (c / touch-limit) (omega arith) }
+  where
+    go : (n : ℕ) → n < touch-limit + 1 → (t : Touch) → TouchOf (step-with (touch-coded (c % touch-limit)) n) t → t .kind < kind-limit
+    go zero h t only = touch-low (c % touch-limit) (omega arith)
+    go (suc n) h t first = touch-low (c % touch-limit) (omega arith)
+    go (suc n) h t second = touch-low n (omega arith)
+
 pub step-found : (steps : List ℕ) (i : ℕ) (x : StepValue) → Small code-limit steps → as-step x ≡ step-coded (getD steps i 0) → StepAt steps i x
-step-found steps i x s e = record { is = e; kind = let k : x .kind ≡ getD steps i 0 / position-limit = ap (λ (y : Step). y .kind) e in omega (arith, k, s .small i) }
+step-found steps i x s e = record { is = e; kinds = rw e (coded-low (getD steps i 0) (s .small i)) }

@@ -4,22 +4,23 @@ use bits::Row;
 use bits::Table;
 use book::Book;
 use book::Step;
+use book::Touch;
 ghost use mathlib.Core.Path.{_≡_};
 ghost use mathlib.Core.Logic.{_≢_};
 ghost use Prim.Native.Nat.{_+_, _*_, _<_, _≤_};
 ghost use lib.ListN.{length, take};
-ghost use Rattle.theory.specs.Deck.{listed};
+ghost use Rattle.theory.specs.Deck.{single, listed};
 ghost use Rattle.theory.specs.Relative.{Depends};
 ghost use Rattle.theory.specs.Graph.{FirstOf, LastOf};
 ghost use Rattle.theory.specs.Lists.{sum};
 ghost use Rattle.book.specs.Format.{kind-limit, run-limit, step-limit};
-ghost use Rattle.book.specs.Book.{code-limit, as-step, pairs-of, Valid, contents-of};
+ghost use Rattle.book.specs.Book.{code-limit, as-touch, as-step, pairs-of, Valid, contents-of};
 ghost use Rattle.book.specs.Meaning.{conflict-of, unit-of};
 ghost use Rattle.graph.specs.Marks.{Marks};
 ghost use Rattle.graph.specs.Units.{units-size, UnchangedFrom, UnitTables};
 ghost use Rattle.graph.specs.Catalogue.{base, run-part, parts};
-ghost use Rattle.graph.specs.Dependence.{Blank, StepRead, StepAnswered};
-ghost use Rattle.graph.specs.inner.Reading.{PartRow, HomesAs, OtherHomeRow, Entered, Finds, Paired, KindAdded, ConflictsWith, Linked, RowFrom, ReadFromCodes};
+ghost use Rattle.graph.specs.Dependence.{Blank, KindsLow, StepRead, StepAnswered};
+ghost use Rattle.graph.specs.inner.Reading.{PartRow, HomesAs, OtherHomeRow, PartsEntered, KindsJoined, KindJoined, TouchJoined, StepEntered, Finds, TouchConflicts, StepFinds, ConflictsWith, Linked, RowFrom, ReadFromCodes};
 ghost use Rattle.graph.specs.inner.Tables.{places-size, Small, HistoryOf, Declared, NumberAt, StepAt, Starts, RunsRoom, Numbering, Counts, EachBy, RowRoom, RowSet, by-flag, copied-row};
 ghost use Rattle.graph.specs.inner.Arcs.{ArcOf, ArcOfPlaces, RunRows, TablesBy, TablesOf, GainedBy, ArcRows, ArcInput, Rowed};
 ghost use Rattle.bits.specs.Table.{bit-at, intersection, RowCopied};
@@ -34,19 +35,20 @@ pub type Units = [u8; UNITS_SIZE];
 // The size of a table of a place for each step, of run r and ordinal i at r * Book::RUN_STEPS + i.
 const PLACES_SIZE: usize = Book::RUNS * Book::RUN_STEPS;
 
-// Kinds, runs and the digits of a position are below this.
+// Runs and the digits of a position are below this.
 const BASE: usize = 16;
 
-// The parts of a step that the catalogue of the places read tells apart: the digits of its position, the lowest first, its kind, its run, whether it homes.
+// The parts of a touch that a catalogue of the places read tells apart: the digits of its position, the lowest first, its run, whether it homes.
 const DIGIT_PARTS: usize = 4;
 
-const KIND_PART: usize = 4;
+const RUN_PART: usize = 4;
 
-const RUN_PART: usize = 5;
+const HOME_PART: usize = 5;
 
-const HOME_PART: usize = 6;
+const PARTS: usize = 6;
 
-const PARTS: usize = 7;
+// Behind the rows of the parts a catalogue has one for each kind, of the places whose kind is paired with it.
+const PART_ROWS: usize = PARTS * BASE;
 
 // These have no effect: their contracts say how long the array is, for functions that hold it by `&mut`.
 fn sized_by_run(t: [u8; Book::RUNS])
@@ -74,7 +76,7 @@ pub fn run_of(history: &[u8; Book::STEPS], p: usize) -> usize
 }
 
 // The step at index i of a table of codes.
-fn step_at(steps: &[u32; Book::STEPS], i: usize) -> Step
+fn step_at(steps: &[u64; Book::STEPS], i: usize) -> Step
     requires { ⌜ (i < step-limit) × Small code-limit (now steps) ⌝ }
     ensures { λ r. ⌜ StepAt (now (steps .entry)) i r ⌝ }
 {
@@ -104,17 +106,17 @@ fn is_listed(pairs: &[u8; Book::PAIRS_SIZE], a: usize, b: usize) -> bool
     book::wide(pairs[a * Book::KINDS + b]) + book::wide(pairs[b * Book::KINDS + a]) != 0
 }
 
-// 1 if the step homes, else 0.
-fn homes(x: Step) -> usize
-    ensures { λ r. ⌜ HomesAs (as-step x) r ⌝ }
+// 1 if the touch homes, else 0.
+fn homes(x: Touch) -> usize
+    ensures { λ r. ⌜ HomesAs (as-touch x) r ⌝ }
 {
     if x.position == Book::HOME { 1 } else { 0 }
 }
 
-// The catalogue's row of the part k of a step of run r.
-fn part_row(r: usize, x: Step, k: usize) -> usize
-    requires { ⌜ (r < run-limit) × (x .kind < kind-limit) × (k < parts) ⌝ }
-    ensures { λ row. ⌜ PartRow r (as-step x) k row ⌝ }
+// The catalogue's row of the part k of a touch of run r.
+fn part_row(r: usize, x: Touch, k: usize) -> usize
+    requires { ⌜ (r < run-limit) × (k < parts) ⌝ }
+    ensures { λ row. ⌜ PartRow r (as-touch x) k row ⌝ }
 {
     let position = x.position as usize;
     if k == 0 {
@@ -129,9 +131,6 @@ fn part_row(r: usize, x: Step, k: usize) -> usize
     if k == 3 {
         return k * BASE + position / 4096;
     }
-    if k == KIND_PART {
-        return k * BASE + book::wide(x.kind);
-    }
     if k == RUN_PART {
         return k * BASE + r;
     }
@@ -139,71 +138,141 @@ fn part_row(r: usize, x: Step, k: usize) -> usize
 }
 
 // The catalogue's row of the places that home if x does not, and of those that do not if x does.
-fn other_home_row(x: Step) -> usize
-    ensures { λ row. ⌜ OtherHomeRow (as-step x) row ⌝ }
+fn other_home_row(x: Touch) -> usize
+    ensures { λ row. ⌜ OtherHomeRow (as-touch x) row ⌝ }
 {
     HOME_PART * BASE + (1 - homes(x))
 }
 
-// Enters the step x of run r as place q.
-fn enter(catalogue: &mut Table, q: usize, r: usize, x: Step)
-    requires { ⌜ (q < step-limit) × (r < run-limit) × (x .kind < kind-limit) ⌝ }
-    ensures { λ _. ⌜ Entered (now (catalogue .entry)) (now (catalogue .exit)) q r (as-step x) parts ⌝ }
+// Enters the touch x of run r, by its parts, as the place whose column alone the row `column` has.
+fn enter_parts(catalogue: &mut Table, column: &Row, r: usize, x: Touch)
+    requires { ⌜ r < run-limit ⌝ }
+    ensures { λ _. ⌜ PartsEntered (now (catalogue .entry)) (now (catalogue .exit)) (now (column .entry)) r (as-touch x) parts ⌝ }
 {
     let mut k = 0;
     while k < PARTS {
-        bits::mark(catalogue, part_row(r, x, k), q);
+        bits::join(catalogue, part_row(r, x, k), column);
         k += 1;
     }
 }
 
-// Adds the places of kind k, if k is paired with `kind`.
-fn add_kind(pairs: &[u8; Book::PAIRS_SIZE], catalogue: &Table, kind: usize, k: usize, m: &mut Row)
+// Enters the place in the row of kind k, if k is paired with `kind`.
+fn enter_kind(
+    pairs: &[u8; Book::PAIRS_SIZE],
+    catalogue: &mut Table,
+    column: &Row,
+    kind: usize,
+    k: usize,
+)
     requires { ⌜ (kind < kind-limit) × (k < kind-limit) ⌝ }
-    ensures { λ _. ⌜ KindAdded (now (pairs .entry)) (now (catalogue .entry)) kind k (now (m .entry)) (now (m .exit)) ⌝ }
+    ensures { λ _. ⌜ KindJoined (now (pairs .entry)) (now (catalogue .entry)) (now (catalogue .exit)) (now (column .entry)) kind k ⌝ }
 {
-    if is_listed(pairs, k, kind) {
-        bits::add_row(m, catalogue, KIND_PART * BASE + k);
+    if is_listed(pairs, kind, k) {
+        bits::join(catalogue, PART_ROWS + k, column);
     }
 }
 
-// The places of the kinds that are paired with `kind`.
-fn paired(pairs: &[u8; Book::PAIRS_SIZE], catalogue: &Table, kind: usize) -> Row
+// Enters the place in the rows of the kinds that are paired with `kind`.
+fn enter_kinds(pairs: &[u8; Book::PAIRS_SIZE], catalogue: &mut Table, column: &Row, kind: usize)
     requires { ⌜ kind < kind-limit ⌝ }
-    ensures { λ m. ⌜ Finds (Paired (now (pairs .entry)) kind kind-limit) (now (catalogue .entry)) m ⌝ }
+    ensures { λ _. ⌜ KindsJoined (now (pairs .entry)) (now (catalogue .entry)) (now (catalogue .exit)) (now (column .entry)) kind kind-limit ⌝ }
 {
-    let mut m = [0; bits::ROW_WORDS];
     let mut k = 0;
     while k < Book::KINDS {
-        add_kind(pairs, catalogue, kind, k, &mut m);
+        enter_kind(pairs, catalogue, column, kind, k);
+        k += 1;
+    }
+}
+
+// Enters the touch x of run r. Each row is stored whole, as it is read later: a row of which a word alone was stored just before is slower to read.
+fn enter(pairs: &[u8; Book::PAIRS_SIZE], catalogue: &mut Table, column: &Row, r: usize, x: Touch)
+    requires { ⌜ (r < run-limit) × (x .kind < kind-limit) ⌝ }
+    ensures { λ _. ⌜ TouchJoined (now (pairs .entry)) (now (catalogue .entry)) (now (catalogue .exit)) (now (column .entry)) r (as-touch x) ⌝ }
+{
+    enter_parts(catalogue, column, r, x);
+    enter_kinds(pairs, catalogue, column, book::wide(x.kind));
+}
+
+// Enters the step x of run r as place q: its first touch, and the second, if it is a transfer, in a catalogue of its own, there under run 0, so that one row
+// has all places of transfers.
+fn enter_step(
+    pairs: &[u8; Book::PAIRS_SIZE],
+    catalogue: &mut Table,
+    seconds: &mut Table,
+    q: usize,
+    r: usize,
+    x: Step,
+)
+    requires { ⌜ (q < step-limit) × (r < run-limit) × KindsLow (as-step x) ⌝ }
+    ensures { λ _. ⌜ StepEntered (now (pairs .entry)) (now (catalogue .entry)) (now (catalogue .exit)) (now (seconds .entry)) (now (seconds .exit)) q r (as-step x) ⌝ }
+{
+    let column = bits::column(q);
+    match x {
+        Step::Single(t) => {
+            enter(pairs, catalogue, &column, r, t);
+        }
+        Step::Transfer(t, u) => {
+            enter(pairs, catalogue, &column, r, t);
+            enter(pairs, seconds, &column, 0, u);
+        }
+    }
+}
+
+// The places of a catalogue whose touch conflicts with the touch x: of a kind paired with its own, and at the same position. That is where each digit is the
+// same, or where exactly one of the two homes; where both home, their digits are the same.
+fn conflicting(catalogue: &Table, x: Touch) -> Row
+    requires { ⌜ x .kind < kind-limit ⌝ }
+    ensures { λ m. ⌜ Finds (TouchConflicts (as-touch x)) (now (catalogue .entry)) m ⌝ }
+{
+    let other = other_home_row(x);
+    let mut m = bits::row_of(catalogue, PART_ROWS + book::wide(x.kind));
+    let mut k = 0;
+    while k < DIGIT_PARTS {
+        bits::keep_either(&mut m, catalogue, part_row(0, x, k), other);
         k += 1;
     }
     m
 }
 
-// The places that a step x conflicts with where they are of another run: of a kind paired with its own, and at the same position. That is where each digit
-// is the same, or where exactly one of the two homes; where both home, their digits are the same.
-fn conflicting(pairs: &[u8; Book::PAIRS_SIZE], catalogue: &Table, r: usize, x: Step) -> Row
-    requires { ⌜ (r < run-limit) × (x .kind < kind-limit) ⌝ }
-    ensures { λ m. ⌜ Finds (ConflictsWith (now (pairs .entry)) (as-step x)) (now (catalogue .entry)) m ⌝ }
+// The places any touch of whose step conflicts with the touch x. The first row of runs of the catalogue of second touches has all places of transfers: where
+// there is none, no second touch is looked for.
+fn touching(catalogue: &Table, seconds: &Table, x: Touch) -> Row
+    requires { ⌜ x .kind < kind-limit ⌝ }
+    ensures { λ m. ⌜ StepFinds (ConflictsWith (single (as-touch x))) (now (catalogue .entry)) (now (seconds .entry)) m ⌝ }
 {
-    let other = other_home_row(x);
-    let mut m = paired(pairs, catalogue, book::wide(x.kind));
-    let mut k = 0;
-    while k < DIGIT_PARTS {
-        bits::keep_either(&mut m, catalogue, part_row(r, x, k), other);
-        k += 1;
+    let mut m = conflicting(catalogue, x);
+    let none = [0; bits::ROW_WORDS];
+    if bits::within(seconds, RUN_PART * BASE, &none) {
+        return m;
     }
+    let n = conflicting(seconds, x);
+    bits::add_all(&mut m, &n);
     m
+}
+
+// The places that a step x conflicts with where they are of another run: any touch of the one with any touch of the other.
+fn conflicting_steps(catalogue: &Table, seconds: &Table, x: Step) -> Row
+    requires { ⌜ KindsLow (as-step x) ⌝ }
+    ensures { λ m. ⌜ StepFinds (ConflictsWith (as-step x)) (now (catalogue .entry)) (now (seconds .entry)) m ⌝ }
+{
+    match x {
+        Step::Single(t) => touching(catalogue, seconds, t),
+        Step::Transfer(t, u) => {
+            let mut m = touching(catalogue, seconds, t);
+            let n = touching(catalogue, seconds, u);
+            bits::add_all(&mut m, &n);
+            m
+        }
+    }
 }
 
 // The places on which a step x of run r directly depends: those that it conflicts with, and those of its run.
-fn linked_row(pairs: &[u8; Book::PAIRS_SIZE], catalogue: &Table, r: usize, x: Step) -> Row
-    requires { ⌜ (r < run-limit) × (x .kind < kind-limit) ⌝ }
-    ensures { λ m. ⌜ Finds (Linked (now (pairs .entry)) r (as-step x)) (now (catalogue .entry)) m ⌝ }
+fn linked_row(catalogue: &Table, seconds: &Table, r: usize, x: Step) -> Row
+    requires { ⌜ (r < run-limit) × KindsLow (as-step x) ⌝ }
+    ensures { λ m. ⌜ StepFinds (Linked r (as-step x)) (now (catalogue .entry)) (now (seconds .entry)) m ⌝ }
 {
-    let mut m = conflicting(pairs, catalogue, r, x);
-    bits::add_row(&mut m, catalogue, part_row(r, x, RUN_PART));
+    let mut m = conflicting_steps(catalogue, seconds, x);
+    bits::add_row(&mut m, catalogue, RUN_PART * BASE + r);
     m
 }
 
@@ -236,28 +305,30 @@ fn read_in_range(
     r: usize,
     x: Step,
     catalogue: &mut Table,
+    seconds: &mut Table,
     dep: &mut Table,
 )
-    requires { ⌜ (q < step-limit) × (r < run-limit) × (x .kind < kind-limit) ⌝ }
-    ensures { λ _. ⌜ StepRead (now (pairs .entry)) (now (catalogue .entry)) (now (catalogue .exit)) (now (dep .entry)) (now (dep .exit)) q r (as-step x) ⌝ }
+    requires { ⌜ (q < step-limit) × (r < run-limit) × KindsLow (as-step x) ⌝ }
+    ensures { λ _. ⌜ StepRead (now (pairs .entry)) (now (catalogue .entry)) (now (catalogue .exit)) (now (seconds .entry)) (now (seconds .exit)) (now (dep .entry)) (now (dep .exit)) q r (as-step x) ⌝ }
 {
-    let linked = linked_row(pairs, catalogue, r, x);
+    let linked = linked_row(catalogue, seconds, r, x);
     let row = dependence_row(dep, &linked);
     bits::replace_row(dep, q, &row);
-    enter(catalogue, q, r, x);
+    enter_step(pairs, catalogue, seconds, q, r, x);
 }
 
 // Reads one more step, x of run r, as place q, and answers true; where there is no such place, run or kind, it answers false and changes nothing. The
-// catalogue and the dependence table are those of the steps read before, at first all zero.
+// catalogues of first and of second touches and the dependence table are those of the steps read before, at first all zero.
 pub fn read_step(
     pairs: &[u8; Book::PAIRS_SIZE],
     q: usize,
     r: usize,
     x: Step,
     catalogue: &mut Table,
+    seconds: &mut Table,
     dep: &mut Table,
 ) -> bool
-    ensures { λ answer. ⌜ StepAnswered (now (pairs .entry)) (now (catalogue .entry)) (now (catalogue .exit)) (now (dep .entry)) (now (dep .exit)) q r (as-step x) answer ⌝ }
+    ensures { λ answer. ⌜ StepAnswered (now (pairs .entry)) (now (catalogue .entry)) (now (catalogue .exit)) (now (seconds .entry)) (now (seconds .exit)) (now (dep .entry)) (now (dep .exit)) q r (as-step x) answer ⌝ }
 {
     if q >= Book::STEPS {
         return false;
@@ -265,11 +336,11 @@ pub fn read_step(
     if r >= Book::RUNS {
         return false;
     }
-    if book::wide(x.kind) >= Book::KINDS {
-        return false;
+    if book::kinds_low(x) {
+        read_in_range(pairs, q, r, x, catalogue, seconds, dep);
+        return true;
     }
-    read_in_range(pairs, q, r, x, catalogue, dep);
-    true
+    false
 }
 
 // Reads the first n steps of a history, one by one, into tables that mark nothing yet.
@@ -277,13 +348,14 @@ fn read_steps(
     history: &[u8; Book::STEPS],
     n: usize,
     lengths: &[u8; Book::RUNS],
-    steps: &[u32; Book::STEPS],
+    steps: &[u64; Book::STEPS],
     pairs: &[u8; Book::PAIRS_SIZE],
     catalogue: &mut Table,
+    seconds: &mut Table,
     dep: &mut Table,
 )
-    requires { ⌜ HistoryOf (now history) n × RunsRoom (take n (now history)) (now lengths) × Small code-limit (now steps) × Blank (now catalogue) × Blank (now dep) ⌝ }
-    ensures { λ _. ⌜ ReadFromCodes (now (pairs .entry)) (take n (now (history .entry))) (now (lengths .entry)) (now (steps .entry)) (now (catalogue .exit)) (now (dep .exit)) ⌝ }
+    requires { ⌜ HistoryOf (now history) n × RunsRoom (take n (now history)) (now lengths) × Small code-limit (now steps) × Blank (now catalogue) × Blank (now seconds) × Blank (now dep) ⌝ }
+    ensures { λ _. ⌜ ReadFromCodes (now (pairs .entry)) (take n (now (history .entry))) (now (lengths .entry)) (now (steps .entry)) (now (catalogue .exit)) (now (seconds .exit)) (now (dep .exit)) ⌝ }
 {
     // The next step of each run.
     let mut next = [0u8; Book::RUNS];
@@ -295,7 +367,7 @@ fn read_steps(
         let i = next[r];
         let x = step_at(steps, book::wide(i));
         next[r] = i + 1;
-        read_in_range(pairs, q, r, x, catalogue, dep);
+        read_in_range(pairs, q, r, x, catalogue, seconds, dep);
         q += 1;
     }
 }
@@ -311,6 +383,7 @@ pub fn dependences(b: Book, dep: &mut Table)
     let pairs = b.pairs;
     *dep = [0; bits::TABLE_WORDS];
     let mut catalogue = [0; bits::TABLE_WORDS];
+    let mut seconds = [0; bits::TABLE_WORDS];
     read_steps(
         &history,
         b.done,
@@ -318,6 +391,7 @@ pub fn dependences(b: Book, dep: &mut Table)
         &steps,
         &pairs,
         &mut catalogue,
+        &mut seconds,
         dep,
     );
 }
@@ -553,7 +627,17 @@ pub fn tables(
     let lengths = b.lengths;
     let steps = b.steps;
     let pairs = b.pairs;
-    read_steps(&history, b.done, &lengths, &steps, &pairs, catalogue, dep);
+    let mut seconds = [0; bits::TABLE_WORDS];
+    read_steps(
+        &history,
+        b.done,
+        &lengths,
+        &steps,
+        &pairs,
+        catalogue,
+        &mut seconds,
+        dep,
+    );
     units(b, firsts, lasts);
 }
 

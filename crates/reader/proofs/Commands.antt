@@ -2,21 +2,27 @@
 -- command's table of tests: the rows before it hold, and its own fails (`Fails`), or all hold (`Holds`).
 use Prim.Native.Nat.{ℕ, _+_, _*_, _-_, _/_, _%_, _≤_, _<_}
 use mathlib.Core.Path.{_≡_, refl, ap, sym, _∙_}
-use mathlib.Core.Bool.{true, false, not}
+use mathlib.Core.Bool.{Bool, true, false, true≢false, _&&_, not}
 use mathlib.Core.List.{List, _∷_}
 use native.Mathlib.Omega.{arith}
-use borrow.Author.Tests.{lt-ltb, le-ltb, le-leb, lt-leb, eq-eqb, ne-eqb}
+use borrow.Author.Tests.{ltb-true, eqb-true, lt-ltb, le-ltb, le-leb, lt-leb, eq-eqb, ne-eqb}
 use mir.Val.{Fits}
 use mir.Syntax.{w64}
 use lib.ListN.{length, getD}
 use lib.Dec.{leb, ltb, eqb}
 use Rattle.theory.specs.History.{count}
-use Rattle.book.specs.Format.{kind-limit, position-limit, run-limit, run-step-limit, ReadState, Move, Test, last, lengths, above-pair, above-cut, over, refused, operand-tests, command-tests, obeyed, obey, pair-at, run-at, step-at, cut-at, done-at, end-at, command-at, Command}
-use Rattle.book.specs.Book.{run-cuts, contents-of}
-use Rattle.reader.specs.inner.Reader.{so-far, read-state-of, Underway, Any, Lengths, Tables, Inside, move-of, width-of, Room, Decides, MayTake, CommandReadAs}
+use Rattle.theory.specs.Deck.{Touch, single, transfer}
+use Rattle.book.specs.Format.{kind-limit, run-limit, run-step-limit, pick, ReadState, Move, Test, test, check, last, lengths, above-pair, above-cut, kinds-low, over, refused, operand-tests, command-tests, obeyed, obey, touch-of-bytes, pair-at, run-at, single-at, transfer-at, cut-at, done-at, end-at, command-at, Command, step, width}
+use Rattle.book.specs.Book.{run-cuts, step-coded, as-touch, as-step, step-code, contents-of}
+use Rattle.book.specs.inner.Room.{StepLow}
+use Rattle.book.proofs.Codes.{coded-back, code-low}
+use Rattle.reader.specs.inner.Reader.{so-far, read-state-of, Underway, Any, Lengths, Tables, Limited, Inside, move-of, width-of, Room, Decides, PositionsLow, StepTested, MayTake, CommandReadAs}
 use Rattle.book.specs.declared.Rules.{Rules}
 use Rattle.book.specs.declared.Cause.{Cause}
 use Rattle.book.specs.declared.Cause.the-variants.{NoCommand, EndsEarly, OutOfOrder, WrongKind, NotRising, WrongRun, TooManyRuns, RunTooLong, TooManySteps, WrongCut, NoStepLeft, BytesAfterEnd}
+use Rattle.book.specs.declared.Touch.{Touch as TouchValue}
+use Rattle.book.specs.declared.Step.{Step as StepValue}
+use Rattle.book.specs.declared.Step.the-variants.{Single, Transfer}
 use Rattle.book.specs.declared.Book.{Book}
 use Rattle.reader.specs.declared.Progress.{Progress}
 use Rattle.reader.specs.declared.Parsed.{Parsed}
@@ -117,63 +123,107 @@ module _ (s : List ℕ) (at : ℕ) (p : Progress) where
   unfolding end-at
   end-on z h = record { move = λ b u t. rw (le-leb _ _ h); room = λ b u t. tt; ends = λ l. omega (arith, z .begun) }
 
+-- two tests, and a test of the contrary
+both-hold : (a b : Bool) → (a && b) ≡ true → (a ≡ true) × (b ≡ true)
+both-hold true b h = (refl, h)
+both-hold false b h = absurd (true≢false (sym h))
+
+not-not : (k : Bool) → not (not k) ≡ k
+not-not true = refl
+not-not false = refl
+
+-- the touches of a step are in range where its kinds and its positions are
+step-low : (x : StepValue) → kinds-low (as-step x) ≡ true → PositionsLow (as-step x) → StepLow (as-step x)
+step-low (Single t) e l = record { kind = ltb-true _ _ e; position = l }
+step-low (Transfer t u) e l =
+    let h = both-hold (ltb (t .kind) kind-limit) _ e in
+    (record { kind = ltb-true _ _ (h .0); position = l .0 }, record { kind = ltb-true _ _ (h .1); position = l .1 })
+
 -- what is read of the lent table of lengths
 module _ (b : Book) (p : Progress) (u : Underway b p) (ls : List ℕ) (e : b .lengths ≡ ls) where
-  last-read : (n : ℕ) → (p .declared ≡ 0 → ⊥) → n ≡ getD ls (p .declared - 1) 0 → last (lengths (contents-of (so-far b p) .runs)) ≡ n
-  last-read n h d = last-is (so-far b p) (u .valid) (omega arith) ∙ ap (λ (l : List ℕ). getD l (p .declared - 1) 0) e ∙ sym d
-
   length-read : (r n : ℕ) → n ≡ getD ls r 0 → getD (lengths (contents-of (so-far b p) .runs)) r 0 ≡ n
   length-read r n d = length-is (so-far b p) (u .valid) r ∙ ap (λ (l : List ℕ). getD l r 0) e ∙ sym d
 
   short-read : (r : ℕ) → getD ls r 0 ≤ run-step-limit
   short-read r = omega (arith, u .valid .runs .lengths .small r, ap (λ (l : List ℕ). getD l r 0) e)
 
-module _ (s : List ℕ) (at : ℕ) (p : Progress) (ls : List ℕ) where
-  abbrev Of : (List ℕ → ℕ → Command) → Parsed → Type 0
-  Of f = Decides (Lengths ls) (obey f) s at p
+-- the number of steps of the last run
+last-read : (b : Book) (p : Progress) → Underway b p → (n : ℕ) → (p .declared ≡ 0 → ⊥) → n ≡ p .last → last (lengths (contents-of (so-far b p) .runs)) ≡ n
+last-read b p u n h d = last-is (so-far b p) (u .valid) (omega arith) ∙ sym (u .last (omega arith)) ∙ sym d
 
-  -- 53
-  pub step-short : length s - at < 4 → Of step-at (Refused EndsEarly at)
-  step-short h = turned (Lengths ls) step-at s at p EndsEarly (λ b u t. here (lt-leb _ _ h))
+-- the step x, whose bytes are there, is tested
+module _ (x : StepValue) (at : ℕ) (p : Progress) where
+  -- a refusal behind the test of the bytes
+  step-out : (cause : Cause) → ((b : Book) → Underway b p → Any b → Fails (test (leb (p .group) 1) OutOfOrder ∷ operand-tests (p .rules) (contents-of (so-far b p)) (step (as-step x))) cause)
+      → StepTested x at p (Refused cause at)
+  step-out cause w = record { decides = λ f s e h. turned Any f s at p cause (λ b u t. rw e (there (le-leb _ _ h) (w b u t))) }
 
-  pub step-late : 4 ≤ length s - at → 1 < p .group → Of step-at (Refused OutOfOrder at)
-  step-late h0 h = turned (Lengths ls) step-at s at p OutOfOrder (λ b u t. there (le-leb _ _ h0) (here (lt-leb _ _ h)))
+  pub step-late : 1 < p .group → StepTested x at p (Refused OutOfOrder at)
+  step-late h = step-out OutOfOrder (λ b u t. here (lt-leb _ _ h))
 
-  module _ (h0 : 4 ≤ length s - at) (h1 : p .group ≤ 1) where
-    pub step-early : p .declared ≡ 0 → Of step-at (Refused OutOfOrder at)
+  module _ (h1 : p .group ≤ 1) where
+    pub step-early : p .declared ≡ 0 → StepTested x at p (Refused OutOfOrder at)
     unfolding operand-tests
-    step-early h = turned (Lengths ls) step-at s at p OutOfOrder (λ b u t.
-        there (le-leb _ _ h0) (there (le-leb _ _ h1) (here (rw (runs-are (so-far b p) (u .valid)) (le-ltb 0 (p .declared) (omega arith))))))
+    step-early h = step-out OutOfOrder (λ b u t. there (le-leb _ _ h1) (here (rw (runs-are (so-far b p) (u .valid)) (le-ltb 0 (p .declared) (omega arith)))))
 
-    module _ (h2 : p .declared ≡ 0 → ⊥) (k : ℕ) (e : k ≡ getD s (at + 1) 0) where
+    module _ (h2 : p .declared ≡ 0 → ⊥) (k : Bool) (e : k ≡ kinds-low (as-step x)) where
       begun : (b : Book) → Underway b p → ltb 0 (length (contents-of (so-far b p) .runs)) ≡ true
       begun b u = rw (runs-are (so-far b p) (u .valid)) (lt-ltb 0 (p .declared) (omega arith))
 
-      pub step-kind : kind-limit ≤ k → Of step-at (Refused WrongKind at)
+      pub step-kind : not k ≡ true → StepTested x at p (Refused WrongKind at)
       unfolding operand-tests
-      step-kind h = turned (Lengths ls) step-at s at p WrongKind (λ b u t. there (le-leb _ _ h0) (there (le-leb _ _ h1) (there (begun b u) (here (rw (← e) (le-ltb _ _ h))))))
+      step-kind h = step-out WrongKind (λ b u t. there (le-leb _ _ h1) (there (begun b u) (here (sym e ∙ sym (not-not k) ∙ ap not h))))
 
-      module _ (h3 : k < kind-limit) (n : ℕ) (d : n ≡ getD ls (p .declared - 1) 0) where
-        pub step-long : run-step-limit ≤ n → Of step-at (Refused RunTooLong at)
+      module _ (h3 : not k ≡ false) (n : ℕ) (d : n ≡ p .last) where
+        kinds : kinds-low (as-step x) ≡ true
+        kinds = sym e ∙ sym (not-not k) ∙ ap not h3
+
+        pub step-long : run-step-limit ≤ n → StepTested x at p (Refused RunTooLong at)
         unfolding operand-tests
-        step-long h = turned (Lengths ls) step-at s at p RunTooLong (λ b u t.
-            there (le-leb _ _ h0) (there (le-leb _ _ h1) (there (begun b u) (there (rw (← e) (lt-ltb _ _ h3)) (here (rw (last-read b p u ls (t .lengths-are) n h2 d) (le-ltb _ _ h)))))))
+        step-long h = step-out RunTooLong (λ b u t.
+            there (le-leb _ _ h1) (there (begun b u) (there kinds (here (rw (last-read b p u n h2 d) (le-ltb _ _ h))))))
 
         module _ (h4 : n < run-step-limit) where
-          pub step-many : p .rules .«step_limit» ≤ p .total → Of step-at (Refused TooManySteps at)
+          pub step-many : p .rules .«step_limit» ≤ p .total → StepTested x at p (Refused TooManySteps at)
           unfolding operand-tests
-          step-many h = turned (Lengths ls) step-at s at p TooManySteps (λ b u t.
-              there (le-leb _ _ h0) (there (le-leb _ _ h1) (there (begun b u) (there (rw (← e) (lt-ltb _ _ h3)) (there (rw (last-read b p u ls (t .lengths-are) n h2 d) (lt-ltb _ _ h4))
-              (here (rw (sum-is (so-far b p) (u .valid)) (le-ltb _ _ h))))))))
+          step-many h = step-out TooManySteps (λ b u t.
+              there (le-leb _ _ h1) (there (begun b u) (there kinds (there (rw (last-read b p u n h2 d) (lt-ltb _ _ h4)) (here (rw (sum-is (so-far b p) (u .valid)) (le-ltb _ _ h)))))))
 
-          pub step-on : Inside s at p → p .total < p .rules .«step_limit» → (x : ℕ) → x ≡ getD s (at + 2) 0 * 256 + getD s (at + 3) 0 → x < position-limit
-              → Of step-at (Step (record { kind = getD s (at + 1) 0; position = x }))
+          pub step-on : (c m : ℕ) → c ≡ step-code x → m ≡ width (step (as-step x)) → Limited p → PositionsLow (as-step x) → p .total < p .rules .«step_limit» → StepTested x at p (Step c m)
           unfolding operand-tests
-          step-on z h x f l = taken (Lengths ls) step-at s at p (Step (record { kind = getD s (at + 1) 0; position = x }))
-              (λ b u t. (le-leb _ _ h0, (le-leb _ _ h1, (begun b u, (rw (← e) (lt-ltb _ _ h3), (rw (last-read b p u ls (t .lengths-are) n h2 d) (lt-ltb _ _ h4), (rw (sum-is (so-far b p) (u .valid)) (lt-ltb _ _ h), tt)))))))
-              (λ b u t. rw f)
-              (λ b u t. record { kind-low = omega arith; position-low = l; declared = omega arith; short = rw (t .lengths-are, ← d) h4; few = omega (arith, z .limited .steps) })
-              (λ l. omega arith)
+          step-on c m o k z l h = let is : step-coded c ≡ as-step x = rw o (coded-back x (step-low x kinds l)) in record {
+            decides = λ f s g i. taken Any f s at p (Step c m)
+                (λ b u t. rw g (le-leb _ _ i, (le-leb _ _ h1, (begun b u, (kinds, (rw (last-read b p u n h2 d) (lt-ltb _ _ h4), (rw (sum-is (so-far b p) (u .valid)) (lt-ltb _ _ h), tt)))))))
+                (λ b u t. rw (g, is, k))
+                (λ b u t. record {
+                  room = record { low = rw o (code-low x (step-low x kinds l)); declared = omega arith; short = rw (← u .last (omega arith), ← d) h4; few = omega (arith, z .steps) };
+                  wide = k ∙ rw is;
+                })
+                (λ l. omega arith);
+          }
+
+module _ (s : List ℕ) (at : ℕ) (p : Progress) where
+  -- 53 and 54
+  pub single-short : length s - at < 4 → Decides Any (obey single-at) s at p (Refused EndsEarly at)
+  single-short h = turned Any single-at s at p EndsEarly (λ b u t. here (lt-leb _ _ h))
+
+  pub transfer-short : length s - at < 7 → Decides Any (obey transfer-at) s at p (Refused EndsEarly at)
+  transfer-short h = turned Any transfer-at s at p EndsEarly (λ b u t. here (lt-leb _ _ h))
+
+  module _ (c : Parsed) (t : TouchValue) (e : as-touch t ≡ touch-of-bytes (getD s (at + 1) 0) (getD s (at + 2) 0) (getD s (at + 3) 0)) where
+    pub single-on : 4 ≤ length s - at → StepTested (Single t) at p c → Decides Any (obey single-at) s at p c
+    single-on h w = w .decides single-at s (ap (λ (d : Touch). step (single d)) (sym e)) h
+
+    pub transfer-on : (u : TouchValue) → as-touch u ≡ touch-of-bytes (getD s (at + 4) 0) (getD s (at + 5) 0) (getD s (at + 6) 0) → 7 ≤ length s - at → StepTested (Transfer t u) at p c
+        → Decides Any (obey transfer-at) s at p c
+    transfer-on u f h w = w .decides transfer-at s (sym (both e f)) h
+      where
+        both : {d d′ k k′ : Touch} → d ≡ d′ → k ≡ k′ → step (transfer d k) ≡ step (transfer d′ k′)
+        both g i = rw (g, i)
+
+module _ (s : List ℕ) (at : ℕ) (p : Progress) (ls : List ℕ) where
+  abbrev Of : (List ℕ → ℕ → Command) → Parsed → Type 0
+  Of f = Decides (Lengths ls) (obey f) s at p
 
   -- 42
   pub cut-short : length s - at < 4 → Of cut-at (Refused EndsEarly at)
@@ -317,13 +367,17 @@ module _ (s : List ℕ) (at : ℕ) (p : Progress) (ls ns : List ℕ) where
     unfolding command-at
     command-run e w = by c (λ b t. tt) w (λ t. rw (lt-ltb _ _ h, e))
 
-    pub command-step : getD s at 0 ≡ 0x53 → Decides (Lengths ls) (obey step-at) s at p c → Decides (Tables ls ns) command-at s at p c
+    pub command-single : getD s at 0 ≡ 0x53 → Decides Any (obey single-at) s at p c → Decides (Tables ls ns) command-at s at p c
     unfolding command-at
-    command-step e w = by c lent-lengths w (λ t. rw (lt-ltb _ _ h, e))
+    command-single e w = by c (λ b t. tt) w (λ t. rw (lt-ltb _ _ h, e))
 
-    pub command-cut : getD s at 0 ≡ 0x42 → p .rules .«has_cuts» ≡ true → Decides (Lengths ls) (obey cut-at) s at p c → Decides (Tables ls ns) command-at s at p c
+    pub command-transfer : (eqb (getD s at 0) 0x54 && p .rules .«has_transfers») ≡ true → Decides Any (obey transfer-at) s at p c → Decides (Tables ls ns) command-at s at p c
     unfolding command-at
-    command-cut e d w = by c lent-lengths w (λ t. rw (lt-ltb _ _ h, e, d))
+    command-transfer e w = let g = both-hold (eqb (getD s at 0) 0x54) (p .rules .«has_transfers») e in by c (λ b t. tt) w (λ t. rw (lt-ltb _ _ h, eqb-true (getD s at 0) 0x54 (g .0), g .1))
+
+    pub command-cut : (eqb (getD s at 0) 0x42 && p .rules .«has_cuts») ≡ true → Decides (Lengths ls) (obey cut-at) s at p c → Decides (Tables ls ns) command-at s at p c
+    unfolding command-at
+    command-cut e w = let g = both-hold (eqb (getD s at 0) 0x42) (p .rules .«has_cuts») e in by c lent-lengths w (λ t. rw (lt-ltb _ _ h, eqb-true (getD s at 0) 0x42 (g .0), g .1))
 
     pub command-done : getD s at 0 ≡ 0x48 → Decides (Tables ls ns) (obey done-at) s at p c → Decides (Tables ls ns) command-at s at p c
     unfolding command-at
@@ -333,14 +387,17 @@ module _ (s : List ℕ) (at : ℕ) (p : Progress) (ls ns : List ℕ) where
     unfolding command-at
     command-end e w = by c (λ b t. tt) w (λ t. rw (lt-ltb _ _ h, e))
 
-    pub command-foreign : getD s at 0 ≡ 0x42 → p .rules .«has_cuts» ≡ false → c ≡ Refused NoCommand at → Decides (Tables ls ns) command-at s at p c
+    pub command-unknown : c ≡ Refused NoCommand at → (getD s at 0 ≡ 0x43 → ⊥) → (getD s at 0 ≡ 0x52 → ⊥) → (getD s at 0 ≡ 0x53 → ⊥) → (eqb (getD s at 0) 0x54 && p .rules .«has_transfers») ≡ false
+        → (eqb (getD s at 0) 0x42 && p .rules .«has_cuts») ≡ false → (getD s at 0 ≡ 0x48 → ⊥) → (getD s at 0 ≡ 0x45 → ⊥) → Decides (Tables ls ns) command-at s at p c
     unfolding command-at
-    command-foreign e f d = rw d (refusal NoCommand at (λ b u t. rw (lt-ltb _ _ h, e, f)))
-
-    pub command-unknown : c ≡ Refused NoCommand at → (getD s at 0 ≡ 0x43 → ⊥) → (getD s at 0 ≡ 0x52 → ⊥) → (getD s at 0 ≡ 0x53 → ⊥) → (getD s at 0 ≡ 0x42 → ⊥) → (getD s at 0 ≡ 0x48 → ⊥) → (getD s at 0 ≡ 0x45 → ⊥)
-        → Decides (Tables ls ns) command-at s at p c
-    unfolding command-at
-    command-unknown d n0 n1 n2 n3 n4 n5 = rw d (refusal NoCommand at (λ b u t. rw (lt-ltb _ _ h, ne-eqb _ _ n0, ne-eqb _ _ n1, ne-eqb _ _ n2, ne-eqb _ _ n3, ne-eqb _ _ n4, ne-eqb _ _ n5)))
+    command-unknown d n0 n1 n2 n3 n4 n5 n6 = rw d (refusal NoCommand at (λ b u t. rw (lt-ltb _ _ h, ne-eqb _ _ n0, ne-eqb _ _ n1, ne-eqb _ _ n2)
+        (foreign (eqb (getD s at 0) 0x54) _ _ _ n3 (foreign (eqb (getD s at 0) 0x42) _ _ _ n4 (rw (ne-eqb _ _ n5, ne-eqb _ _ n6))))))
+      where
+        -- a command that the dialect does not have
+        foreign : (a b : Bool) (m n : Move) → (a && b) ≡ false → n ≡ over (refused NoCommand at) → pick a (check b NoCommand at m) n ≡ over (refused NoCommand at)
+        foreign true true m n e f = absurd (true≢false e)
+        foreign true false m n e f = refl
+        foreign false b m n e f = f
 
 -- the offset behind the command
 module _ (s : List ℕ) (at : ℕ) (p : Progress) (ls ns : List ℕ) (c : Parsed) (w : Decides (Tables ls ns) command-at s at p c) (n : ℕ) (e : n ≡ width-of c) where

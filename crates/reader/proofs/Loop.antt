@@ -7,14 +7,15 @@ use borrow.Author.Tests.{le-leb, lt-leb}
 use mir.Val.{Fits}
 use mir.Syntax.{w8}
 use lib.ListN.{length, getD, set}
-use Rattle.book.specs.Format.{run-limit, step-limit, length-limit, Contents, Move, Outcome, on, over, refused, accepted, follow, width, group-of, effect, obeyed, ReadState, pair, run, step, cut, done, command-at, read-from, read-commands, read-by, Command}
-use Rattle.book.specs.Book.{pairs-size, cuts-size, pair-of, cut-of, as-step, set-runs, set-history, contents-of, empty-book, Fitting, Represents, ReadAs}
+use lib.Seq.{getD-set-same}
+use Rattle.book.specs.Format.{run-limit, run-step-limit, step-limit, length-limit, Contents, Move, Outcome, on, over, refused, accepted, follow, width, group-of, effect, obeyed, ReadState, pair, run, step, cut, done, command-at, read-from, read-commands, read-by, Command}
+use Rattle.book.specs.Book.{pairs-size, cuts-size, pair-of, cut-of, step-coded, set-runs, set-history, contents-of, empty-book, Fitting, Represents, ReadAs}
 use Rattle.book.specs.inner.Room.{Next, RoomStep, RoomDone}
 use Rattle.reader.specs.inner.Reader.{at-start, past-pair, past-run, past-step, past-cut, past-done, accepted-as, so-far, read-state-of, Underway, Tables, move-of, Room, width-of, MayTake, CommandReadAs}
 use Rattle.book.specs.declared.Rules.{Rules}
 use Rattle.book.specs.declared.Cause.{Cause}
 use Rattle.book.specs.declared.Cause.the-variants.{BookTooLong}
-use Rattle.book.specs.declared.Step.{Step as StepValue}
+use Rattle.book.proofs.FormatLaws.{width-positive}
 use Rattle.book.specs.declared.Book.{Book}
 use Rattle.reader.specs.declared.Progress.{Progress}
 use Rattle.reader.specs.declared.Parsed.{Parsed}
@@ -22,7 +23,7 @@ use Rattle.reader.specs.declared.Parsed.the-variants.{Pair, Run, Step, C
 use Rattle.book.specs.declared.Answer.the-variants.{Refused as No}
 use Rattle.book.specs.declared.Reading.{Reading}
 use Rattle.book.proofs.Groups.{next-more}
-use Rattle.book.proofs.Books.{with-pair, with-cut, code-of, represents-pair, represents-run, represents-step, represents-cut, represents-done, done-below-steps}
+use Rattle.book.proofs.Books.{with-pair, with-cut, represents-pair, represents-run, represents-step, represents-cut, represents-done, done-below-steps}
 use Rattle.book.proofs.Empty.{represents-empty, next-empty-pairs, next-empty-cuts, empty-counted}
 
 -- a refusal with the empty book
@@ -46,7 +47,7 @@ begins ρ s b p m l e f = rw (e, f) (record {
   rules = refl;
   short = omega (arith, m .bytes);
   fitting = m .steps;
-  underway = record { valid = rw empty-counted (represents-empty .valid); pairs = next-empty-pairs; cuts = next-empty-cuts; group = omega arith };
+  underway = record { valid = rw empty-counted (represents-empty .valid); pairs = next-empty-pairs; cuts = next-empty-cuts; last = λ l. absurd (omega arith); group = omega arith };
   inside = omega arith;
   fuel = suc (length s);
   enough = omega arith;
@@ -57,8 +58,8 @@ pub stands : (ρ : Rules) (s : List ℕ) (b : Book) (at : ℕ) (p : Progress) �
 stands ρ s b at p i = record { within = i .inside; short = i .short; limited = record { few = i .underway .valid .runs .few-runs; steps = rw (i .rules) (i .fitting) } }
 
 -- the tables after a step, and after a done step whose run is n as a number and r as a byte
-abbrev with-step-at : Book → ℕ → ℕ → ℕ → Book
-with-step-at b n last c = set-runs b (set (b .lengths) last (getD (b .lengths) last 0 + 1)) (set (b .steps) n c) (b .declared) (b .total)
+abbrev with-step-at : Book → ℕ → ℕ → ℕ → ℕ → Book
+with-step-at b n last size c = set-runs b (set (b .lengths) last size) (set (b .steps) n c) (b .declared) (b .total)
 
 abbrev with-done-at : Book → ℕ → ℕ → ℕ → Book
 with-done-at b place n r = set-history b (set (b .counts) n (getD (b .counts) n 0 + 1)) (set (b .history) place r) (b .done)
@@ -105,10 +106,10 @@ module _ (ρ : Rules) (s : List ℕ) (b : Book) (at : ℕ) (p : Progress) (c : P
 
   -- the next turn, behind the command d, which is the format's f, by what the book holds then
   turn : (d : Parsed) (f : Command) → c ≡ d → ((t : ReadState) → move-of d at t ≡ obeyed f at t) → (b′ : Book) (q : Progress) → Represents (effect f (contents-of (so-far b p))) (so-far b′ q)
-      → q .group ≡ group-of f → q .group ≤ 3 → q .rules ≡ p .rules → Next (b′ .pairs) (q .«next_pair») → Next (b′ .cuts) (q .«next_cut») → width-of d ≡ width f → 0 < width f → Rest ρ s b′ next q
-  turn d f e m b′ q y g l r np nc k h = goes b′ q
+      → q .group ≡ group-of f → q .group ≤ 3 → q .rules ≡ p .rules → Next (b′ .pairs) (q .«next_pair») → Next (b′ .cuts) (q .«next_cut») → (0 < q .declared → q .last ≡ getD (b′ .lengths) (q .declared - 1) 0) → width-of d ≡ width f → 0 < width f → Rest ρ s b′ next q
+  turn d f e m b′ q y g l r np nc z k h = goes b′ q
       (moves d e ∙ m (read-state-of b p) ∙ same (omega (arith, offset d e)) (sym g) (sym (y .contents)))
-      r (record { valid = y .valid; pairs = np; cuts = nc; group = l }) (omega (arith, offset d e)) (i .fuel) (i .enough) (i .rest)
+      r (record { valid = y .valid; pairs = np; cuts = nc; last = z; group = l }) (omega (arith, offset d e)) (i .fuel) (i .enough) (i .rest)
     where
       same : {n n′ j j′ : ℕ} {x x′ : Contents} → n ≡ n′ → j ≡ j′ → x ≡ x′ → on n (record { group = j; contents = x }) ≡ on n′ (record { group = j′; contents = x′ })
       same e₁ e₂ e₃ = rw (e₁, e₂, e₃)
@@ -120,7 +121,7 @@ module _ (ρ : Rules) (s : List ℕ) (b : Book) (at : ℕ) (p : Progress) (c : P
     pub pair-again : (q : Progress) → q ≡ past-pair p x → Rest ρ s (with-pair b x) next q
     pair-again q f = rw f (turn (Pair x) (pair (pair-of x)) e (λ t. refl) (with-pair b x) (past-pair p x)
         (represents-pair (so-far b p) (p .«next_pair») x (i .underway .valid) (i .underway .pairs) (room (Pair x) e)) refl (omega arith) refl
-        (next-more (b .pairs) (p .«next_pair») x (i .underway .pairs) (room (Pair x) e .rising) (omega (arith, pair-low, i .underway .valid .pairs .long))) (i .underway .cuts) refl (omega arith))
+        (next-more (b .pairs) (p .«next_pair») x (i .underway .pairs) (room (Pair x) e .rising) (omega (arith, pair-low, i .underway .valid .pairs .long))) (i .underway .cuts) (i .underway .last) refl (omega arith))
 
     pub pair-less : length s - next < length s - at
     pair-less = less (Pair x) e (omega arith)
@@ -132,7 +133,7 @@ module _ (ρ : Rules) (s : List ℕ) (b : Book) (at : ℕ) (p : Progress) (c : P
     pub cut-again : (q : Progress) → q ≡ past-cut p x → Rest ρ s (with-cut b x) next q
     cut-again q f = rw f (turn (Cut x) (cut (cut-of x)) e (λ t. refl) (with-cut b x) (past-cut p x)
         (represents-cut (so-far b p) (p .«next_cut») x (i .underway .valid) (i .underway .cuts) (room (Cut x) e)) refl (omega arith) refl
-        (i .underway .pairs) (next-more (b .cuts) (p .«next_cut») x (i .underway .cuts) (room (Cut x) e .rising) (omega (arith, cut-low, i .underway .valid .cuts .long))) refl (omega arith))
+        (i .underway .pairs) (next-more (b .cuts) (p .«next_cut») x (i .underway .cuts) (room (Cut x) e .rising) (omega (arith, cut-low, i .underway .valid .cuts .long))) (i .underway .last) refl (omega arith))
 
     pub cut-less : length s - next < length s - at
     cut-less = less (Cut x) e (omega arith)
@@ -143,14 +144,17 @@ module _ (ρ : Rules) (s : List ℕ) (b : Book) (at : ℕ) (p : Progress) (c : P
 
     pub run-again : (q : Progress) → q ≡ past-run p → Rest ρ s b next q
     run-again q f = rw f (turn Run (run 0) e (λ t. refl) b (past-run p) (represents-run (so-far b p) 0 (i .underway .valid) (room Run e)) refl (omega arith) refl
-        (i .underway .pairs) (i .underway .cuts) refl (omega arith))
+        (i .underway .pairs) (i .underway .cuts) (λ l. sym (i .underway .valid .runs .lengths .blank (p .declared + 1 - 1) (omega arith))) refl (omega arith))
 
     pub run-less : length s - next < length s - at
     run-less = less Run e (omega arith)
 
-  module _ (x : StepValue) (e : c ≡ Step x) where
-    step-room : RoomStep (b .lengths) (p .declared) (p .total) x
-    step-room = room (Step x) e
+  module _ (n m : ℕ) (e : c ≡ Step n m) where
+    step-wide : m ≡ width (step (step-coded n))
+    step-wide = room (Step n m) e .wide
+
+    step-room : RoomStep (b .lengths) (p .declared) (p .total) n
+    step-room = room (Step n m) e .room
 
     pub step-declared : 1 ≤ p .declared
     step-declared = omega (arith, step-room .declared)
@@ -158,15 +162,23 @@ module _ (ρ : Rules) (s : List ℕ) (b : Book) (at : ℕ) (p : Progress) (c : P
     pub step-few : p .total < step-limit
     step-few = step-room .few
 
-    pub step-fits : Fits w8 (getD (b .lengths) (p .declared - 1) 0 + 1)
-    step-fits = omega (arith, step-room .short)
+    step-last : p .last ≡ getD (b .lengths) (p .declared - 1) 0
+    step-last = i .underway .last (step-room .declared)
 
-    pub step-again : (q : Progress) (n : ℕ) → q ≡ past-step p → n ≡ code-of x → Rest ρ s (with-step-at b (p .total) (p .declared - 1) n) next q
-    step-again q n f g = rw (f, g) (turn (Step x) (step (as-step x)) e (λ t. refl) (with-step-at b (p .total) (p .declared - 1) (code-of x)) (past-step p)
-        (represents-step (so-far b p) x (i .underway .valid) step-room) refl (omega arith) refl (i .underway .pairs) (i .underway .cuts) refl (omega arith))
+    pub step-short : p .last < run-step-limit
+    step-short = rw step-last (step-room .short)
+
+    pub step-fits : Fits w8 (p .last + 1)
+    step-fits = omega (arith, step-short)
+
+    pub step-again : (q : Progress) → q ≡ past-step p → Rest ρ s (with-step-at b (p .total) (p .declared - 1) (p .last + 1) n) next q
+    step-again q f = rw f (turn (Step n m) (step (step-coded n)) e (λ t. rw step-wide) (with-step-at b (p .total) (p .declared - 1) (p .last + 1) n) (past-step p)
+        (rw step-last (represents-step (so-far b p) n (i .underway .valid) step-room)) refl (omega arith) refl (i .underway .pairs) (i .underway .cuts)
+        (λ l. sym (getD-set-same (b .lengths) (p .declared - 1) (p .last + 1) 0 (omega (arith, step-room .declared, i .underway .valid .runs .few-runs, i .underway .valid .runs .lengths .long))))
+        step-wide (width-positive (step (step-coded n))))
 
     pub step-less : length s - next < length s - at
-    step-less = less (Step x) e (omega arith)
+    step-less = less (Step n m) e (rw step-wide (width-positive (step (step-coded n))))
 
   module _ (r : ℕ) (e : c ≡ Done r) where
     done-room : RoomDone (b .lengths) (b .counts) (p .declared) r
@@ -183,7 +195,7 @@ module _ (ρ : Rules) (s : List ℕ) (b : Book) (at : ℕ) (p : Progress) (c : P
 
     pub done-again : (n : ℕ) (q : Progress) → n ≡ r → q ≡ past-done p → Rest ρ s (with-done-at b (p .done) n r) next q
     done-again n q d f = rw (d, f) (turn (Done r) (done r) e (λ t. refl) (with-done-at b (p .done) r r) (past-done p)
-        (represents-done (so-far b p) r (i .underway .valid) done-room) refl (omega arith) refl (i .underway .pairs) (i .underway .cuts) refl (omega arith))
+        (represents-done (so-far b p) r (i .underway .valid) done-room) refl (omega arith) refl (i .underway .pairs) (i .underway .cuts) (i .underway .last) refl (omega arith))
 
     pub done-less : length s - next < length s - at
     done-less = less (Done r) e (omega arith)

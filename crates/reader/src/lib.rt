@@ -5,20 +5,22 @@ use book::Cause;
 use book::Reading;
 use book::Rules;
 use book::Step;
+use book::Touch;
 use book::wide;
 ghost use mathlib.Core.Path.{_≡_};
 ghost use Prim.Native.Nat.{_+_, _*_, _<_};
-ghost use Rattle.book.specs.Format.{kind-limit, run-limit, step-limit, refused, obey, pair-at, run-at, step-at, cut-at, done-at, end-at, command-at, read-by, read};
-ghost use Rattle.book.specs.Book.{pairs-size, cuts-size, run-cuts, Fitting, ReadAs};
-ghost use Rattle.reader.specs.inner.Reader.{at-start, past-pair, past-run, past-step, past-cut, past-done, accepted-as, Limited, Inside, Any, Lengths, Tables, width-of, Decides, MayTake, CommandReadAs};
+ghost use Rattle.book.specs.Format.{kind-limit, position-limit, run-limit, run-step-limit, step-limit, refused, step, width, touch-of-bytes, obey, pair-at, run-at, single-at, transfer-at, cut-at, done-at, end-at, command-at, read-by, read};
+ghost use Rattle.book.specs.Book.{pairs-size, cuts-size, run-cuts, as-touch, as-step, Fitting, ReadAs};
+ghost use Rattle.reader.specs.inner.Reader.{at-start, past-pair, past-run, past-step, past-cut, past-done, accepted-as, Limited, Inside, Any, Lengths, Tables, width-of, Decides, PositionsLow, StepTested, MayTake, CommandReadAs};
 
 // The rules, and what the commands so far leave for the next one: the group of the last one, the least index that the next pair and the next
-// cut may have in their tables, and the counts of the book so far.
+// cut may have in their tables, the number of steps of the last run, and the counts of the book so far.
 struct Progress {
     rules: Rules,
     group: u8,
     next_pair: usize,
     next_cut: usize,
+    last: u8,
     declared: usize,
     total: usize,
     done: usize,
@@ -34,6 +36,7 @@ impl Progress {
             group: 0,
             next_pair: 0,
             next_cut: 0,
+            last: 0,
             declared: 0,
             total: 0,
             done: 0,
@@ -55,15 +58,17 @@ impl Progress {
         ensures { λ r. ⌜ r ≡ past-run self ⌝ }
     {
         self.group = 1;
+        self.last = 0;
         self.declared += 1;
         self
     }
 
     fn past_step(mut self) -> Self
-        requires { ⌜ self .total < step-limit ⌝ }
+        requires { ⌜ (self .last < run-step-limit) × (self .total < step-limit) ⌝ }
         ensures { λ r. ⌜ r ≡ past-step self ⌝ }
     {
         self.group = 1;
+        self.last += 1;
         self.total += 1;
         self
     }
@@ -93,7 +98,8 @@ enum Parsed {
     Pair(usize),
     // The next run.
     Run,
-    Step(Step),
+    // The code of a step, and the number of its bytes.
+    Step(u64, usize),
     // The index of a cut.
     Cut(usize),
     // The run.
@@ -102,11 +108,14 @@ enum Parsed {
     Refused(Cause, usize),
 }
 
-// The position of two bytes, high first.
-fn position_of(high: u8, low: u8) -> u16
-    ensures { λ r. ⌜ (r ≡ high * 256 + low) × (r < 65536) ⌝ }
+// The touch of three bytes: its kind, and its position, high byte first.
+fn touch_of(kind: u8, high: u8, low: u8) -> Touch
+    ensures { λ r. ⌜ (as-touch r ≡ touch-of-bytes kind high low) × (r .position < position-limit) ⌝ }
 {
-    (high as u16) * 256 + (low as u16)
+    Touch {
+        kind,
+        position: (high as u16) * 256 + (low as u16),
+    }
 }
 
 // The index of a pair in its table.
@@ -172,35 +181,52 @@ fn run_at(s: &[u8], at: usize, p: Progress) -> Parsed
     Parsed::Run
 }
 
-// 53, kind, position.
-fn step_at(s: &[u8], at: usize, p: Progress, lengths: &[u8; Book::RUNS]) -> Parsed
-    requires { ⌜ Inside (now s) at p ⌝ }
-    ensures { λ r. ⌜ Decides (Lengths (now (lengths .entry))) (obey step-at) (now (s .entry)) at p r ⌝ }
+// The tests of a step of so many bytes behind that of its bytes.
+fn step_tested(x: Step, size: usize, at: usize, p: Progress) -> Parsed
+    requires { ⌜ Limited p × PositionsLow (as-step x) × (size ≡ width (step (as-step x))) ⌝ }
+    ensures { λ r. ⌜ StepTested x at p r ⌝ }
 {
-    if s.len() - at < 4 {
-        return Parsed::Refused(Cause::EndsEarly, at);
-    }
     if p.group > 1 {
         return Parsed::Refused(Cause::OutOfOrder, at);
     }
     if p.declared == 0 {
         return Parsed::Refused(Cause::OutOfOrder, at);
     }
-    let kind = s[at + 1];
-    if wide(kind) >= Book::KINDS {
+    if !book::kinds_low(x) {
         return Parsed::Refused(Cause::WrongKind, at);
     }
-    let last = p.declared - 1;
-    if wide(lengths[last]) >= Book::RUN_STEPS {
+    if wide(p.last) >= Book::RUN_STEPS {
         return Parsed::Refused(Cause::RunTooLong, at);
     }
     if p.total >= p.rules.step_limit as usize {
         return Parsed::Refused(Cause::TooManySteps, at);
     }
-    Parsed::Step(Step {
-        kind,
-        position: position_of(s[at + 2], s[at + 3]),
-    })
+    Parsed::Step(book::code_of(x), size)
+}
+
+// 53, kind, position.
+fn single_at(s: &[u8], at: usize, p: Progress) -> Parsed
+    requires { ⌜ Inside (now s) at p ⌝ }
+    ensures { λ r. ⌜ Decides Any (obey single-at) (now (s .entry)) at p r ⌝ }
+{
+    if s.len() - at < 4 {
+        return Parsed::Refused(Cause::EndsEarly, at);
+    }
+    let t = touch_of(s[at + 1], s[at + 2], s[at + 3]);
+    step_tested(Step::Single(t), 4, at, p)
+}
+
+// 54, kind, position, kind, position.
+fn transfer_at(s: &[u8], at: usize, p: Progress) -> Parsed
+    requires { ⌜ Inside (now s) at p ⌝ }
+    ensures { λ r. ⌜ Decides Any (obey transfer-at) (now (s .entry)) at p r ⌝ }
+{
+    if s.len() - at < 7 {
+        return Parsed::Refused(Cause::EndsEarly, at);
+    }
+    let t = touch_of(s[at + 1], s[at + 2], s[at + 3]);
+    let u = touch_of(s[at + 4], s[at + 5], s[at + 6]);
+    step_tested(Step::Transfer(t, u), 7, at, p)
 }
 
 // 42, run r, number j, run o.
@@ -291,7 +317,6 @@ fn command_at<'a>(
         return Parsed::Refused(Cause::EndsEarly, at);
     }
     let c = s[at];
-    let has_cuts = p.rules.has_cuts;
     if c == 0x43 {
         return pair_at(s, at, p);
     }
@@ -299,13 +324,13 @@ fn command_at<'a>(
         return run_at(s, at, p);
     }
     if c == 0x53 {
-        return step_at(s, at, p, lengths);
+        return single_at(s, at, p);
     }
-    if c == 0x42 {
-        if has_cuts {
-            return cut_at(s, at, p, lengths);
-        }
-        return Parsed::Refused(Cause::NoCommand, at);
+    if (c == 0x54) & p.rules.has_transfers {
+        return transfer_at(s, at, p);
+    }
+    if (c == 0x42) & p.rules.has_cuts {
+        return cut_at(s, at, p, lengths);
     }
     if c == 0x48 {
         return done_at(s, at, p, lengths, counts);
@@ -323,7 +348,7 @@ fn width(command: Parsed) -> usize
     match command {
         Parsed::Pair(_) => 3,
         Parsed::Run => 2,
-        Parsed::Step(_) => 4,
+        Parsed::Step(_, size) => size,
         Parsed::Cut(_) => 4,
         Parsed::Done(_) => 2,
         Parsed::End => 1,
@@ -434,10 +459,10 @@ pub fn read_by(rules: Rules, s: &[u8]) -> Reading
                 p = p.past_pair(index);
             }
             Parsed::Run => p = p.past_run(),
-            Parsed::Step(step) => {
+            Parsed::Step(code, _) => {
                 let n = p.total;
-                book.steps[n] = book::code_of(step);
-                book.lengths[p.declared - 1] += 1;
+                book.steps[n] = code;
+                book.lengths[p.declared - 1] = p.last + 1;
                 p = p.past_step();
             }
             Parsed::Cut(index) => {
@@ -490,6 +515,7 @@ pub fn read(s: &[u8]) -> Reading
             step_limit: Book::STEPS as u16,
             length_limit: Book::LENGTH as u16,
             has_cuts: true,
+            has_transfers: true,
         },
         s,
     )

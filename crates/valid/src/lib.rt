@@ -27,10 +27,10 @@ fn largest(s: &[u8], start: usize) -> u8
 }
 
 // The largest of the codes from `start` on; 0 where there are none.
-fn largest_code(s: &[u32], start: usize) -> u32
+fn largest_code(s: &[u64], start: usize) -> u64
     ensures { λ r. ⌜ Largest (now (s .entry)) start r ⌝ }
 {
-    let mut m: u32 = 0;
+    let mut m: u64 = 0;
     let mut i = start;
     while i < s.len() {
         let x = s[i];
@@ -64,10 +64,10 @@ fn is_column(s: &[u8], limit: u8, end: usize) -> bool
 }
 
 // Whether each is the code of a step, and from `end` on 0.
-fn are_codes(s: &[u32], end: usize) -> bool
+fn are_codes(s: &[u64], end: usize) -> bool
     ensures { λ r. ⌜ Answers (Column (length (now (s .entry))) code-limit end (now (s .entry))) r ⌝ }
 {
-    (largest_code(s, 0) < (Book::KINDS as u32) * Book::POSITIONS) & (largest_code(s, end) == 0)
+    (largest_code(s, 0) < (Book::TOUCHES + 1) * Book::TOUCHES) & (largest_code(s, end) == 0)
 }
 
 // The sum of a number for each run.
@@ -103,7 +103,7 @@ fn count_of(s: &[u8], n: usize, x: u8) -> u8
 // Whether the tables are those of d runs with t steps.
 fn runs_valid<'a>(
     lengths: &'a [u8; Book::RUNS],
-    steps: &'a [u32; Book::STEPS],
+    steps: &'a [u64; Book::STEPS],
     d: usize,
     t: usize,
 ) -> bool

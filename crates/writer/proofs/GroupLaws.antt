@@ -14,12 +14,15 @@ use Rattle.buffer.specs.Each.{each}
 use Rattle.buffer.proofs.PutLaws.{none}
 use Rattle.buffer.proofs.EachLaws.{each-append, each-map}
 use Rattle.buffer.proofs.InTurn.{parts, parts-equal, parts-cons, taken-parts, each-parts, Putting}
-use Rattle.theory.specs.Deck.{Step}
+use Rattle.theory.specs.Deck.{Step, single, transfer}
 use Rattle.theory.proofs.Lists.{sum-take, sum-take-mono}
 use Rattle.theory.specs.Lists.{sum}
-use Rattle.book.specs.Format.{pick, Command, pair, run, step, cut, done, command-bytes, width}
+use Rattle.book.specs.Format.{pick, Command, pair, run, step, cut, done, step-bytes, command-bytes, width}
 use Rattle.book.specs.Render.{run-commands}
-use Rattle.book.specs.Book.{code-limit, pair-of, cut-of, step-coded, flagged, runs-of-lengths}
+use Rattle.book.specs.Book.{code-limit, pair-of, cut-of, step-coded, as-touch, as-step, flagged, runs-of-lengths}
+use Rattle.book.specs.declared.Touch.{Touch as TouchValue}
+use Rattle.book.specs.declared.Step.{Step as StepValue}
+use Rattle.book.specs.declared.Step.the-variants.{Single, Transfer}
 use Rattle.book.proofs.Groups.{runs-snoc}
 use Rattle.book.proofs.RenderLaws.{run-commands-append}
 use Rattle.writer.specs.inner.Groups.{bytes-of, flag-bytes, pair-commands, cut-commands, step-commands, runs-divided, Codes, RunsHeld}
@@ -89,7 +92,25 @@ step-piece ss k = command-bytes (step (step-coded (getD ss k 0)))
 pub step-pieces : (ss : List ℕ) → bytes-of (step-commands ss) ≡ parts (step-piece ss) (length ss)
 step-pieces ss = commands-each step step-coded ss ∙ each-parts (λ x. command-bytes (step (step-coded x))) ss 0
 
-pub step-put : (x y : Step) {before after : List ℕ} {r : ℕ} → x ≡ y → Put (command-bytes (step x)) before after r → Put (command-bytes (step y)) before after r
+-- what is put is the step that a value of the code's type is
+module _ (x : StepValue) (t : TouchValue) where
+  pub single-room : (n : ℕ) → x ≡ Single t → length (step-bytes (as-step x)) ≤ n → 4 ≤ n
+  single-room n e h = rw e at h
+
+  pub single-put : (before after : List ℕ) (r : ℕ) → x ≡ Single t → Put (step-bytes (single (as-touch t))) before after r → Put (step-bytes (as-step x)) before after r
+  single-put before after r e p = rw e p
+
+  pub transfer-room : (u : TouchValue) (n : ℕ) → x ≡ Transfer t u → length (step-bytes (as-step x)) ≤ n → 7 ≤ n
+  transfer-room u n e h = rw e at h
+
+  pub transfer-put : (u : TouchValue) (before after : List ℕ) (r : ℕ) → x ≡ Transfer t u → Put (step-bytes (transfer (as-touch t) (as-touch u))) before after r → Put (step-bytes (as-step x)) before after r
+  transfer-put u before after r e p = rw e p
+
+-- which is that of the code
+pub step-room : (x y : Step) {n : ℕ} → x ≡ y → length (step-bytes y) ≤ n → length (step-bytes x) ≤ n
+step-room x y e h = rw e h
+
+pub step-put : (x y : Step) {before after : List ℕ} {r : ℕ} → x ≡ y → Put (step-bytes x) before after r → Put (step-bytes y) before after r
 step-put x y e p = rw (← e) p
 
 abbrev pub done-piece : List ℕ → ℕ → List ℕ

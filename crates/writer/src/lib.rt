@@ -3,13 +3,16 @@
 use book::Answer;
 use book::Book;
 use book::Cause;
+use book::Step;
+use book::Touch;
 ghost use mathlib.Core.List.{[], _∷_, map};
 ghost use Prim.Native.Nat.{_<_, _≤_};
 ghost use lib.ListN.{length, take};
 ghost use Rattle.buffer.specs.Put.{Put};
-ghost use Rattle.book.specs.Format.{pair, run, step, cut, done, command-bytes};
+ghost use Rattle.theory.specs.Deck.{single, transfer};
+ghost use Rattle.book.specs.Format.{pair, run, cut, done, step-bytes};
 ghost use Rattle.book.specs.Render.{run-commands, render};
-ghost use Rattle.book.specs.Book.{pairs-size, cuts-size, pair-of, cut-of, as-step};
+ghost use Rattle.book.specs.Book.{pairs-size, cuts-size, pair-of, cut-of, as-touch, as-step};
 ghost use Rattle.writer.specs.Written.{Wrote};
 ghost use Rattle.writer.specs.inner.Groups.{bytes-of, flag-bytes, pair-commands, cut-commands, step-commands, runs-divided, Codes, RunsHeld, BookHeld, table-contents};
 
@@ -54,18 +57,46 @@ fn put_cut(flag: u8, index: usize, out: &mut [u8]) -> usize
     buffer::put_bytes(&bytes, out)
 }
 
-// 53, a kind, and a position, high byte first.
-fn put_step(x: book::Step, out: &mut [u8]) -> usize
+// 53 and a touch: a kind, and a position, high byte first.
+fn put_single(t: Touch, out: &mut [u8]) -> usize
     requires { ⌜ 4 ≤ length (now out) ⌝ }
-    ensures { λ r. ⌜ Put (command-bytes (step (as-step x))) (now (out .entry)) (now (out .exit)) r ⌝ }
+    ensures { λ r. ⌜ Put (step-bytes (single (as-touch t))) (now (out .entry)) (now (out .exit)) r ⌝ }
 {
     let bytes = [
         0x53,
-        x.kind,
-        (x.position / 256) as u8,
-        (x.position % 256) as u8,
+        t.kind,
+        (t.position / 256) as u8,
+        (t.position % 256) as u8,
     ];
     buffer::put_bytes(&bytes, out)
+}
+
+// 54 and two touches.
+fn put_transfer(first: Touch, second: Touch, out: &mut [u8]) -> usize
+    requires { ⌜ 7 ≤ length (now out) ⌝ }
+    ensures { λ r. ⌜ Put (step-bytes (transfer (as-touch first) (as-touch second))) (now (out .entry)) (now (out .exit)) r ⌝ }
+{
+    let bytes = [
+        0x54,
+        first.kind,
+        (first.position / 256) as u8,
+        (first.position % 256) as u8,
+        second.kind,
+        (second.position / 256) as u8,
+        (second.position % 256) as u8,
+    ];
+    buffer::put_bytes(&bytes, out)
+}
+
+// The command of a step.
+fn put_step(x: Step, out: &mut [u8]) -> usize
+    requires { ⌜ length (step-bytes (as-step x)) ≤ length (now out) ⌝ }
+    ensures { λ r. ⌜ Put (step-bytes (as-step x)) (now (out .entry)) (now (out .exit)) r ⌝ }
+{
+    match x {
+        Step::Single(t) => put_single(t, out),
+        Step::Transfer(t, u) => put_transfer(t, u, out),
+    }
 }
 
 // 52 or 48, and a run's number.
@@ -93,7 +124,7 @@ fn put_pairs(pairs: &[u8], out: &mut [u8]) -> usize
 }
 
 // The steps of these codes.
-fn put_steps(steps: &[u32], out: &mut [u8]) -> usize
+fn put_steps(steps: &[u64], out: &mut [u8]) -> usize
     requires { ⌜ Codes (now steps) × (length (bytes-of (step-commands (now steps))) ≤ length (now out)) ⌝ }
     ensures { λ r. ⌜ Put (bytes-of (step-commands (now (steps .entry)))) (now (out .entry)) (now (out .exit)) r ⌝ }
 {
@@ -109,7 +140,7 @@ fn put_steps(steps: &[u32], out: &mut [u8]) -> usize
 }
 
 // 52, the run's number, and its steps.
-fn put_run(number: u8, steps: &[u32], out: &mut [u8]) -> usize
+fn put_run(number: u8, steps: &[u64], out: &mut [u8]) -> usize
     requires { ⌜ Codes (now steps) × (length (bytes-of (run number ∷ step-commands (now steps))) ≤ length (now out)) ⌝ }
     ensures { λ r. ⌜ Put (bytes-of (run number ∷ step-commands (now (steps .entry)))) (now (out .entry)) (now (out .exit)) r ⌝ }
 {
@@ -118,8 +149,8 @@ fn put_run(number: u8, steps: &[u32], out: &mut [u8]) -> usize
     n + k
 }
 
-// The group of 52 and 53.
-fn put_runs<'a>(declared: usize, lengths: &'a [u8], steps: &'a [u32], out: &mut [u8]) -> usize
+// The group of 52, 53 and 54.
+fn put_runs<'a>(declared: usize, lengths: &'a [u8], steps: &'a [u64], out: &mut [u8]) -> usize
     requires { ⌜ RunsHeld declared (now lengths) (now steps) × (length (bytes-of (run-commands 0 (runs-divided declared (now lengths) (now steps)))) ≤ length (now out)) ⌝ }
     ensures { λ r. ⌜ Put (bytes-of (run-commands 0 (runs-divided declared (now (lengths .entry)) (now (steps .entry))))) (now (out .entry)) (now (out .exit)) r ⌝ }
 {
@@ -171,7 +202,7 @@ fn put_book<'a>(
     pairs: &'a [u8],
     declared: usize,
     lengths: &'a [u8],
-    steps: &'a [u32],
+    steps: &'a [u64],
     cuts: &'a [u8],
     done: usize,
     history: &'a [u8],

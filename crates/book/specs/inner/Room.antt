@@ -4,8 +4,8 @@ use mathlib.Core.Path.{_≡_}
 use mathlib.Core.List.{List, [], _∷_}
 use lib.ListN.{getD}
 use Rattle.book.specs.Format.{kind-limit, position-limit, run-step-limit, step-limit}
-use Rattle.book.specs.Book.{flagged}
-use Rattle.book.specs.declared.Step.{Step as StepValue}
+use Rattle.theory.specs.Deck.{Touch, Step, single, transfer}
+use Rattle.book.specs.Book.{code-limit, flagged}
 
 -- one more than the last of a list, or 0
 abbrev pub next-of : List ℕ → ℕ
@@ -23,10 +23,18 @@ pub record RoomFlag (limit next i : ℕ) : Type 0 where
   pub rising : next ≤ i
   pub low : i < limit
 
--- runs have room for one more step of the last
-pub record RoomStep (ls : List ℕ) (d t : ℕ) (x : StepValue) : Type 0 where
-  pub kind-low : x .kind < kind-limit
-  pub position-low : x .position < position-limit
+-- the touches of a step are in range
+pub record TouchLow (t : Touch) : Type 0 where
+  pub kind : t .kind < kind-limit
+  pub position : t .position < position-limit
+
+abbrev pub StepLow : Step → Type 0
+StepLow (single t) = TouchLow t
+StepLow (transfer t u) = TouchLow t × TouchLow u
+
+-- runs have room for one more step of the last, of code c
+pub record RoomStep (ls : List ℕ) (d t c : ℕ) : Type 0 where
+  pub low : c < code-limit
   pub declared : 0 < d
   pub short : getD ls (d - 1) 0 < run-step-limit
   pub few : t < step-limit

@@ -1,6 +1,7 @@
--- Each turn keeps the places that have the next digit of the position too, and those where exactly one of place and step homes.
+-- The row of the kind has the places of the kinds paired with it. Each turn keeps those that have the next digit of the position too, and those where exactly
+-- one of the two touches homes.
 use Prim.Native.Nat.{_≤_, _-_}
-use Rattle.book.specs.Book.{as-step}
+use Rattle.book.specs.Book.{as-touch}
 use Rattle.graph.specs.Catalogue.{digit-parts}
 use Rattle.graph.specs.inner.Reading.{Finds}
 use Rattle.graph.proofs.Catalogue.{PairedAt, at-none, at-keep, at-all}
@@ -9,10 +10,10 @@ use Rattle.graph.proofs.conflicting.Statement.{statement}
 use Rattle.graph.proofs.conflicting.Tie as tie
 
 abbrev Inv-loop : tie.InvT-loop
-Inv-loop pairs catalogue r x other m₀ k₀ m k = (k ≤ digit-parts) × Finds (PairedAt pairs r (as-step x) k) catalogue m
+Inv-loop catalogue x other m₀ k₀ m k = (k ≤ digit-parts) × Finds (PairedAt 0 (as-touch x) k) catalogue m
 
 abbrev μ-loop : tie.MeasureT-loop
-μ-loop pairs catalogue r x other m₀ k₀ m k = digit-parts - k
+μ-loop catalogue x other m₀ k₀ m k = digit-parts - k
 
 other-home-row-requires : tie.Need-other-home-row-requires Inv-loop μ-loop
 other-home-row-requires c κs = search needs
@@ -20,8 +21,11 @@ other-home-row-requires c κs = search needs
 wide-requires : tie.Need-wide-requires Inv-loop μ-loop
 wide-requires c κs = search needs
 
-paired-requires : tie.Need-paired-requires Inv-loop μ-loop
-paired-requires c κs = search needs
+add-row-of : tie.Need-add-row-of Inv-loop μ-loop
+add-row-of c = search needs
+
+row-of-requires : tie.Need-row-of-requires Inv-loop μ-loop
+row-of-requires c κs = search needs
 
 loop-holds : tie.Need-loop-holds Inv-loop μ-loop
 loop-holds c = (search needs, search at-none)
@@ -52,7 +56,8 @@ conflicting-spec =
     μ-loop
     other-home-row-requires
     wide-requires
-    paired-requires
+    add-row-of
+    row-of-requires
     loop-holds
     part-row-requires
     keep-either-requires

@@ -1,12 +1,11 @@
 -- The rows so far, after the last step, are those of the whole history.
 use Rattle.graph.proofs.DependenceRows.{blank-zeros}
 use Rattle.graph.proofs.BookTables.{book-history, book-room, book-steps, book-dependences}
-use borrow.Author.Needs.{needs}
 use Rattle.graph.proofs.dependences.Statement.{statement}
 use Rattle.graph.proofs.dependences.Tie as tie
 
 read-steps-requires : tie.Need-read-steps-requires
-read-steps-requires c κs = (search book-history, search book-room, search book-steps, search blank-zeros, search blank-zeros)
+read-steps-requires c κs = (search book-history, search book-room, search book-steps, search blank-zeros, search blank-zeros, search blank-zeros)
 
 returns : tie.Need-returns
 returns c = search book-dependences

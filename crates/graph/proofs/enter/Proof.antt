@@ -1,50 +1,20 @@
--- Each turn marks the place in the row of one more part.
-use Prim.Native.Nat.{_≤_, _-_}
-use Rattle.book.specs.Book.{as-step}
-use Rattle.graph.specs.Catalogue.{parts}
-use Rattle.graph.specs.inner.Reading.{Entered}
-use Rattle.graph.proofs.Catalogue.{entered-none, entered-more, entered-all}
+-- The parts are entered, and then the kinds.
+use Rattle.graph.proofs.Catalogue.{touch-entered}
 use borrow.Author.Needs.{needs}
 use Rattle.graph.proofs.enter.Statement.{statement}
 use Rattle.graph.proofs.enter.Tie as tie
 
-abbrev Inv-loop : tie.InvT-loop
-Inv-loop catalogue₀ q r x k₀ catalogue k = (k ≤ parts) × Entered catalogue₀ catalogue q r (as-step x) k
+enter-parts-requires : tie.Need-enter-parts-requires
+enter-parts-requires c κs = search needs
 
-abbrev μ-loop : tie.MeasureT-loop
-μ-loop catalogue₀ q r x k₀ catalogue k = parts - k
+wide-requires : tie.Need-wide-requires
+wide-requires c κs = search needs
 
-loop-holds : tie.Need-loop-holds Inv-loop μ-loop
-loop-holds c = (search needs, search entered-none)
+enter-kinds-requires : tie.Need-enter-kinds-requires
+enter-kinds-requires c κs = search needs
 
-part-row-requires : tie.Need-part-row-requires Inv-loop μ-loop
-part-row-requires c κs = search needs
-
-mark-requires : tie.Need-mark-requires Inv-loop μ-loop
-mark-requires c κs = search needs
-
-add-k : tie.Need-add-k Inv-loop μ-loop
-add-k c = search needs
-
-loop-less : tie.Need-loop-less Inv-loop μ-loop
-loop-less c = search needs
-
-loop-again : tie.Need-loop-again Inv-loop μ-loop
-loop-again c = (search needs, search entered-more)
-
-returns : tie.Need-returns Inv-loop μ-loop
-returns c = search entered-all
+returns : tie.Need-returns
+returns c = search touch-entered
 
 pub enter-spec : {M : Type 1} → statement M
-enter-spec =
-    tie.close
-    (tie.spec
-    Inv-loop
-    μ-loop
-    loop-holds
-    part-row-requires
-    mark-requires
-    add-k
-    loop-less
-    loop-again
-    returns)
+enter-spec = tie.close (tie.spec enter-parts-requires wide-requires enter-kinds-requires returns)

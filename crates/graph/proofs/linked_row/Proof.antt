@@ -4,11 +4,14 @@ use borrow.Author.Needs.{needs}
 use Rattle.graph.proofs.linked_row.Statement.{statement}
 use Rattle.graph.proofs.linked_row.Tie as tie
 
-conflicting-requires : tie.Need-conflicting-requires
-conflicting-requires c κs = search needs
+conflicting-steps-requires : tie.Need-conflicting-steps-requires
+conflicting-steps-requires c κs = search needs
 
-part-row-requires : tie.Need-part-row-requires
-part-row-requires c κs = search needs
+mul-add-row : tie.Need-mul-add-row
+mul-add-row c = search needs
+
+add-add-row : tie.Need-add-add-row
+add-add-row c = search needs
 
 add-row-requires : tie.Need-add-row-requires
 add-row-requires c κs = search needs
@@ -18,4 +21,4 @@ returns c = search linked-all
 
 pub linked-row-spec : {M : Type 1} → statement M
 linked-row-spec =
-    tie.close (tie.spec conflicting-requires part-row-requires add-row-requires returns)
+    tie.close (tie.spec conflicting-steps-requires mul-add-row add-add-row add-row-requires returns)

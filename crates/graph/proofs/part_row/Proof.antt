@@ -48,39 +48,26 @@ returns-4 c = part-found _ _ _ 3 _ (c .if4 .taken) refl (omega arith) (omega ari
 mul-result-5 : tie.Need-mul-result-5
 mul-result-5 c = search needs
 
-wide-requires : tie.Need-wide-requires
-wide-requires c κs = search needs
-
 add-result-5 : tie.Need-add-result-5
 add-result-5 c = search needs
 
 returns-5 : tie.Need-returns-5
-returns-5 c = part-found _ _ _ 4 _ (c .before .if5 .taken) (c .wide .ensures .0) (omega arith) (omega arith)
+returns-5 c = part-found _ _ _ 4 _ (c .if5 .taken) refl (omega arith) (omega arith)
 
 mul-result-6 : tie.Need-mul-result-6
 mul-result-6 c = search needs
+
+homes-requires : tie.Need-homes-requires
+homes-requires c κs = search needs
 
 add-result-6 : tie.Need-add-result-6
 add-result-6 c = search needs
 
 returns-6 : tie.Need-returns-6
-returns-6 c = part-found _ _ _ 5 _ (c .if6 .taken) refl (omega arith) (omega arith)
-
-mul-result-7 : tie.Need-mul-result-7
-mul-result-7 c = search needs
-
-homes-requires : tie.Need-homes-requires
-homes-requires c κs = search needs
-
-add-result-7 : tie.Need-add-result-7
-add-result-7 c = search needs
-
-returns-7 : tie.Need-returns-7
-returns-7 c =
+returns-6 c =
     let d = c .before in
-    part-found _ _ _ 6 _
-    (home-only _ (omega arith) (d .before .before .before .before .before .if1 .left) (d .before .before .before .before .if2 .left) (d .before .before .before .if3 .left) (d .before .before .if4 .left)
-    (d .before .if5 .left) (d .if6 .left))
+    part-found _ _ _ 5 _
+    (home-only _ (omega arith) (d .before .before .before .before .if1 .left) (d .before .before .before .if2 .left) (d .before .before .if3 .left) (d .before .if4 .left) (d .if5 .left))
     (c .homes .ensures .is) (omega arith) (omega arith)
 
 pub part-row-spec : {M : Type 1} → statement M
@@ -101,13 +88,9 @@ part-row-spec =
     add-result-4
     returns-4
     mul-result-5
-    wide-requires
     add-result-5
     returns-5
     mul-result-6
-    add-result-6
-    returns-6
-    mul-result-7
     homes-requires
-    add-result-7
-    returns-7)
+    add-result-6
+    returns-6)

@@ -1,4 +1,5 @@
--- The linked places are those on which the place read directly depends. With what they depend on they are its dependence row. The catalogue has one step more.
+-- The linked places are those on which the place read directly depends. With what they depend on they are its dependence row. The catalogues have one step
+-- more.
 use Rattle.graph.proofs.DependenceRows.{step-read}
 use borrow.Author.Needs.{needs}
 use Rattle.graph.proofs.read_in_range.Statement.{statement}
@@ -13,8 +14,8 @@ dependence-row-requires c κs = search needs
 replace-row-requires : tie.Need-replace-row-requires
 replace-row-requires c κs = search needs
 
-enter-requires : tie.Need-enter-requires
-enter-requires c κs = search needs
+enter-step-requires : tie.Need-enter-step-requires
+enter-step-requires c κs = search needs
 
 returns : tie.Need-returns
 returns c = search step-read
@@ -22,4 +23,4 @@ returns c = search step-read
 pub read-in-range-spec : {M : Type 1} → statement M
 read-in-range-spec =
     tie.close
-    (tie.spec linked-row-requires dependence-row-requires replace-row-requires enter-requires returns)
+    (tie.spec linked-row-requires dependence-row-requires replace-row-requires enter-step-requires returns)

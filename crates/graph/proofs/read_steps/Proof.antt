@@ -7,10 +7,10 @@ use Rattle.graph.proofs.read_steps.Statement.{statement}
 use Rattle.graph.proofs.read_steps.Tie as tie
 
 abbrev Inv-loop : tie.InvT-loop
-Inv-loop history n lengths steps pairs catalogue₀ dep₀ next₀ q₀ catalogue dep next q = ReadUpTo pairs (take n history) lengths next₀ steps next catalogue dep n q
+Inv-loop history n lengths steps pairs catalogue₀ seconds₀ dep₀ next₀ q₀ catalogue seconds dep next q = ReadUpTo pairs (take n history) lengths next₀ steps next catalogue seconds dep n q
 
 abbrev μ-loop : tie.MeasureT-loop
-μ-loop history n lengths steps pairs catalogue₀ dep₀ next₀ q₀ catalogue dep next q = n - q
+μ-loop history n lengths steps pairs catalogue₀ seconds₀ dep₀ next₀ q₀ catalogue seconds dep next q = n - q
 
 starts-requires : tie.Need-starts-requires Inv-loop μ-loop
 starts-requires c κs = search needs

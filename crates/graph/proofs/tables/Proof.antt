@@ -1,11 +1,12 @@
 -- The tables of dependences and units are those of the book's contents.
+use Rattle.graph.proofs.DependenceRows.{blank-zeros}
 use Rattle.graph.proofs.BookTables.{book-history, book-room, book-steps, book-run-rows, book-tables}
 use borrow.Author.Needs.{needs}
 use Rattle.graph.proofs.tables.Statement.{statement}
 use Rattle.graph.proofs.tables.Tie as tie
 
 read-steps-requires : tie.Need-read-steps-requires
-read-steps-requires c κs = (search book-history, search book-room, search book-steps, search needs, search needs)
+read-steps-requires c κs = (search book-history, search book-room, search book-steps, search needs, search blank-zeros, search needs)
 
 units-requires : tie.Need-units-requires
 units-requires c κs = search needs

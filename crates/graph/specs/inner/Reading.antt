@@ -6,62 +6,110 @@ use mathlib.Core.Bool.{Bool}
 use mathlib.Core.List.{List}
 use lib.ListN.{length}
 use lib.Dec.{T}
-use Rattle.bits.specs.Table.{row-bits, rows, bit-at}
+use Rattle.bits.specs.Table.{row-bits, rows, bit-at, Alone}
 use Rattle.theory.specs.History.{run}
-use Rattle.theory.specs.Deck.{Step, listed, steps-conflict}
+use Rattle.theory.specs.Deck.{Pair, Touch, Step, single, transfer, listed, touches-conflict, steps-conflict}
+use Rattle.theory.specs.Transfers.{touch-of}
 use Rattle.theory.specs.Relative.{DirectlyDepends, Depends}
+use Rattle.book.specs.Format.{kind-limit}
 use Rattle.book.specs.Book.{pairs-of}
 use Rattle.graph.specs.Marks.{Marks, Columns}
-use Rattle.graph.specs.Catalogue.{base, homes, part, home-part, done-step, Catalogued}
+use Rattle.graph.specs.Catalogue.{base, homes, part, home-part, parts, part-rows, done-step, Which, first-touches, second-touches, HasTouch, touch-in, run-in, Catalogued}
 use Rattle.graph.specs.Dependence.{StepsRead}
 use Rattle.graph.specs.inner.Tables.{StepsOf}
 
--- the row of part k of a step x of run r
-pub record PartRow (r : ℕ) (x : Step) (k row : ℕ) : Type 0 where
+-- the row of part k of a touch x of run r
+pub record PartRow (r : ℕ) (x : Touch) (k row : ℕ) : Type 0 where
   pub is : row ≡ k * base + part r x k
   pub low : part r x k < base
-  pub in-table : row < rows
+  pub in-table : row < part-rows
 
 -- n says whether x homes
-pub record HomesAs (x : Step) (n : ℕ) : Type 0 where
+pub record HomesAs (x : Touch) (n : ℕ) : Type 0 where
   pub is : n ≡ homes x
   pub low : n < 2
 
 -- the row of the places that home if x does not, and of those that do not if x does
-pub record OtherHomeRow (x : Step) (row : ℕ) : Type 0 where
+pub record OtherHomeRow (x : Touch) (row : ℕ) : Type 0 where
   pub is : row ≡ home-part * base + (1 - homes x)
-  pub in-table : row < rows
+  pub in-table : row < part-rows
 
--- u is t with column q in the rows of the first m parts of a step x of run r
-pub record Entered (t u : List ℕ) (q r : ℕ) (x : Step) (m : ℕ) : Type 0 where
+-- u is t with column q in the rows of the first m parts of a touch x of run r
+pub record Entered (t u : List ℕ) (q r : ℕ) (x : Touch) (m : ℕ) : Type 0 where
   pub here : (k : ℕ) → k < m → bit-at u (k * base + part r x k) q ≡ 1
   pub other : (y p : ℕ) → p < row-bits → (p ≡ q → y / base < m → part r x (y / base) ≡ y % base → ⊥) → bit-at u y p ≡ bit-at t y p
 
+-- the same of the place whose column alone a row has
+pub record PartsEntered (t u column : List ℕ) (r : ℕ) (x : Touch) (m : ℕ) : Type 0 where
+  pub place : (q : ℕ) → q < row-bits → Alone q column → Entered t u q r x m
+
+-- u is t with column q in the rows of the kinds below m that are paired with `kind`
+pub record KindsEntered (pairs : List ℕ) (t u : List ℕ) (q kind m : ℕ) : Type 0 where
+  pub here : (v : ℕ) → v < m → T (listed (pairs-of pairs) kind v) → bit-at u (part-rows + v) q ≡ 1
+  pub other : (y p : ℕ) → p < row-bits → (p ≡ q → (v : ℕ) → v < m → y ≡ part-rows + v → T (listed (pairs-of pairs) kind v) → ⊥) → bit-at u y p ≡ bit-at t y p
+
+pub record KindsJoined (pairs t u column : List ℕ) (kind m : ℕ) : Type 0 where
+  pub place : (q : ℕ) → q < row-bits → Alone q column → KindsEntered pairs t u q kind m
+
+-- the kind v too
+pub record KindEntered (pairs : List ℕ) (t u : List ℕ) (q kind v : ℕ) : Type 0 where
+  pub more : (s : List ℕ) → KindsEntered pairs s t q kind v → KindsEntered pairs s u q kind (v + 1)
+
+pub record KindJoined (pairs t u column : List ℕ) (kind v : ℕ) : Type 0 where
+  pub place : (q : ℕ) → q < row-bits → Alone q column → KindEntered pairs t u q kind v
+
+-- a touch x of run r is entered: its parts, and then the kinds
+pub record TouchEntered (pairs : List ℕ) (t u : List ℕ) (q r : ℕ) (x : Touch) : Type 0 where
+  pub between : List ℕ
+  pub by-parts : Entered t between q r x parts
+  pub by-kinds : KindsEntered pairs between u q (x .kind) kind-limit
+
+pub record TouchJoined (pairs t u column : List ℕ) (r : ℕ) (x : Touch) : Type 0 where
+  pub place : (q : ℕ) → q < row-bits → Alone q column → TouchEntered pairs t u q r x
+
+-- of a step x, entered as place q: the second touch of a transfer, and nothing of a single step
+abbrev pub SecondEntered : List ℕ → List ℕ → List ℕ → ℕ → Step → Type 0
+SecondEntered pairs t u q (single x) = u ≡ t
+SecondEntered pairs t u q (transfer x y) = TouchEntered pairs t u q 0 y
+
+-- both touches of a step x of run r
+pub record StepEntered (pairs catalogue catalogue′ seconds seconds′ : List ℕ) (q r : ℕ) (x : Step) : Type 0 where
+  pub first : TouchEntered pairs catalogue catalogue′ q r (touch-of x)
+  pub second : SecondEntered pairs seconds seconds′ q x
+
+-- place p of h has, in a catalogue, a run and a touch of which P holds
+pub record Has (w : Which) (P : ℕ → Touch → Type 0) (runs : List (List Step)) (h : List ℕ) (p : ℕ) : Type 0 where
+  pub inside : p < length h
+  pub has : HasTouch w (done-step runs h p)
+  pub holds : P (run-in w (run h p)) (touch-in w (done-step runs h p))
+
+-- the columns of m are those places, of any history whose catalogue this is, for any pairs
+pub record Finds (P : List Pair → ℕ → Touch → Type 0) (catalogue m : List ℕ) : Type 0 where
+  pub columns : (pairs : List Pair) (w : Which) (runs : List (List Step)) (h : List ℕ) → Catalogued pairs w runs h catalogue → Columns (Has w (P pairs) runs h) m
+
+-- a touch y that conflicts with a touch x; the run s plays no part
+abbrev pub TouchConflicts : Touch → List Pair → ℕ → Touch → Type 0
+TouchConflicts x pairs s y = T (touches-conflict pairs y x)
+
+-- ---- steps by both catalogues
+
 -- place p of h has a run and a step of which P holds
-pub record Has (P : ℕ → Step → Type 0) (runs : List (List Step)) (h : List ℕ) (p : ℕ) : Type 0 where
+pub record StepHas (P : ℕ → Step → Type 0) (runs : List (List Step)) (h : List ℕ) (p : ℕ) : Type 0 where
   pub inside : p < length h
   pub holds : P (run h p) (done-step runs h p)
 
--- the columns of m are those places, of any history whose catalogue this is
-pub record Finds (P : ℕ → Step → Type 0) (catalogue m : List ℕ) : Type 0 where
-  pub columns : (runs : List (List Step)) (h : List ℕ) → Catalogued runs h catalogue → Columns (Has P runs h) m
-
--- the kind of y is below m, and paired with `kind`
-pub record Paired (pairs : List ℕ) (kind m r : ℕ) (y : Step) : Type 0 where
-  pub low : y .kind < m
-  pub paired : T (listed (pairs-of pairs) (y .kind) kind)
-
--- m′ has the places of m, and those of kind k too if it is paired with `kind`
-pub record KindAdded (pairs catalogue : List ℕ) (kind k : ℕ) (m m′ : List ℕ) : Type 0 where
-  pub more : Finds (Paired pairs kind k) catalogue m → Finds (Paired pairs kind (k + 1)) catalogue m′
+-- the columns of m are those places, of any history whose catalogues these are, for any pairs
+pub record StepFinds (P : List Pair → ℕ → Step → Type 0) (catalogue seconds m : List ℕ) : Type 0 where
+  pub columns : (pairs : List Pair) (runs : List (List Step)) (h : List ℕ) → Catalogued pairs first-touches runs h catalogue → Catalogued pairs second-touches runs h seconds
+      → Columns (StepHas (P pairs) runs h) m
 
 -- a step y that conflicts with a step x if they are of different runs; the run s of y plays no part
-abbrev pub ConflictsWith : List ℕ → Step → ℕ → Step → Type 0
-ConflictsWith pairs x s y = T (steps-conflict (pairs-of pairs) y x)
+abbrev pub ConflictsWith : Step → List Pair → ℕ → Step → Type 0
+ConflictsWith x pairs s y = T (steps-conflict pairs y x)
 
 -- a step y of run s on which a later step x of run r directly depends
-abbrev pub Linked : List ℕ → ℕ → Step → ℕ → Step → Type 0
-Linked pairs r x s y = (s ≡ r) ⊎ ConflictsWith pairs x s y
+abbrev pub Linked : ℕ → Step → List Pair → ℕ → Step → Type 0
+Linked r x pairs s y = (s ≡ r) ⊎ ConflictsWith x pairs s y
 
 -- ---- the row of a place
 
@@ -78,5 +126,5 @@ pub record RowFrom (dep linked m : List ℕ) : Type 0 where
 -- ---- the rows of a history
 
 -- the tables are those after the steps of h, for any runs whose steps have these codes
-pub record ReadFromCodes (pairs h lengths steps catalogue dep : List ℕ) : Type 0 where
-  pub read : (runs : List (List Step)) → StepsOf runs h lengths steps → StepsRead (pairs-of pairs) runs h catalogue dep
+pub record ReadFromCodes (pairs h lengths steps catalogue seconds dep : List ℕ) : Type 0 where
+  pub read : (runs : List (List Step)) → StepsOf runs h lengths steps → StepsRead (pairs-of pairs) runs h catalogue seconds dep

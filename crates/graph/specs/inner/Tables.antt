@@ -4,13 +4,14 @@ use mathlib.Core.Path.{_≡_}
 use mathlib.Core.Logic.{_≢_}
 use mathlib.Core.List.{List}
 use lib.ListN.{length, getD, take}
-use Rattle.book.specs.Format.{kind-limit, run-limit, run-step-limit, step-limit}
+use Rattle.book.specs.Format.{run-limit, run-step-limit, step-limit}
 use Rattle.book.specs.Book.{cuts-size, run-cuts, step-coded, as-step}
 use Rattle.book.specs.declared.Step.{Step as StepValue}
 use Rattle.theory.specs.Lists.{sum}
 use Rattle.theory.specs.History.{count, run, ordinal}
 use Rattle.theory.specs.Deck.{Step, step-of}
 use Rattle.theory.specs.inner.Places.{place-of}
+use Rattle.graph.specs.Dependence.{KindsLow}
 use Rattle.graph.specs.Units.{EachPlace}
 
 -- the size of a table of a place for each step, by run and ordinal
@@ -55,7 +56,7 @@ step-in steps i = step-coded (getD steps i 0)
 -- x is that step
 pub record StepAt (steps : List ℕ) (i : ℕ) (x : StepValue) : Type 0 where
   pub is : as-step x ≡ step-in steps i
-  pub kind : x .kind < kind-limit
+  pub kinds : KindsLow (as-step x)
 
 -- the steps of h are, in these runs, those that the table has of runs of these lengths, one behind the other
 pub record StepsOf (runs : List (List Step)) (h lengths steps : List ℕ) : Type 0 where

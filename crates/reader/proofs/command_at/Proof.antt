@@ -1,5 +1,5 @@
 -- The byte picks the command as in the format, and the command's function says what the format does there.
-use Rattle.reader.proofs.Commands.{command-none, command-pair, command-run, command-step, command-foreign, command-cut, command-done, command-end, command-unknown}
+use Rattle.reader.proofs.Commands.{command-none, command-pair, command-run, command-single, command-transfer, command-cut, command-done, command-end, command-unknown}
 use borrow.Author.Needs.{needs}
 use Rattle.reader.proofs.command_at.Statement.{statement}
 use Rattle.reader.proofs.command_at.Tie as tie
@@ -22,20 +22,23 @@ run-at-requires c κs = search needs
 returns-3 : tie.Need-returns-3
 returns-3 c = search command-run
 
-step-at-requires : tie.Need-step-at-requires
-step-at-requires c κs = search needs
+single-at-requires : tie.Need-single-at-requires
+single-at-requires c κs = search needs
 
 returns-4 : tie.Need-returns-4
-returns-4 c = search command-step
+returns-4 c = search command-single
+
+transfer-at-requires : tie.Need-transfer-at-requires
+transfer-at-requires c κs = search needs
+
+returns-5 : tie.Need-returns-5
+returns-5 c = search command-transfer
 
 cut-at-requires : tie.Need-cut-at-requires
 cut-at-requires c κs = search needs
 
-returns-5 : tie.Need-returns-5
-returns-5 c = search command-cut
-
 returns-6 : tie.Need-returns-6
-returns-6 c = search command-foreign
+returns-6 c = search command-cut
 
 done-at-requires : tie.Need-done-at-requires
 done-at-requires c κs = search needs
@@ -62,10 +65,11 @@ command-at-spec =
     returns-2
     run-at-requires
     returns-3
-    step-at-requires
+    single-at-requires
     returns-4
-    cut-at-requires
+    transfer-at-requires
     returns-5
+    cut-at-requires
     returns-6
     done-at-requires
     returns-7

@@ -1,8 +1,9 @@
--- The length is tested first, as in the format. The invariant `Rest` says that the format, reading on from what the tables and the progress mean, comes to the whole book's outcome.
+-- The length is tested first, as in the format. The invariant `Rest` says that the format, reading on from what the tables and the progress mean, comes to
+-- the whole book's outcome.
 -- Each arm stores what its command says, which is what the format adds; the offset grows, so the loop ends.
 use lib.ListN.{length}
 use Prim.Native.Nat.{_-_}
-use Rattle.reader.proofs.Loop.{long-refused, Rest, begins, stands, pair-low, pair-again, pair-less, cut-low, cut-again, cut-less, run-low, run-again, run-less, step-declared, step-few, step-fits, step-again, step-less, done-run, done-low, done-fits, done-again, done-less, ends-refused, ends-accepted}
+use Rattle.reader.proofs.Loop.{long-refused, Rest, begins, stands, pair-low, pair-again, pair-less, cut-low, cut-again, cut-less, run-low, run-again, run-less, step-declared, step-few, step-short, step-fits, step-again, step-less, done-run, done-low, done-fits, done-again, done-less, ends-refused, ends-accepted}
 use borrow.Author.Needs.{needs}
 use Rattle.reader.proofs.read_by.Statement.{statement}
 use Rattle.reader.proofs.read_by.Tie as tie
@@ -66,29 +67,23 @@ loop-again-2 c =
 enum-known-command-2 : tie.Need-enum-known-command-2 Inv-loop μ-loop
 enum-known-command-2 c = search needs
 
-code-of-requires : tie.Need-code-of-requires Inv-loop μ-loop
-code-of-requires c κs = search needs
-
 mul-book : tie.Need-mul-book Inv-loop μ-loop
 mul-book c = search needs
 
 element-write-book-2 : tie.Need-element-write-book-2 Inv-loop μ-loop
 element-write-book-2 c = search step-few
 
-sub-book : tie.Need-sub-book Inv-loop μ-loop
-sub-book c = search step-declared
-
-element-copy-out-book : tie.Need-element-copy-out-book Inv-loop μ-loop
-element-copy-out-book c = search needs
-
 add-book : tie.Need-add-book Inv-loop μ-loop
 add-book c = search step-fits
+
+sub-book : tie.Need-sub-book Inv-loop μ-loop
+sub-book c = search step-declared
 
 element-write-book-3 : tie.Need-element-write-book-3 Inv-loop μ-loop
 element-write-book-3 c = search needs
 
 past-step-requires : tie.Need-past-step-requires Inv-loop μ-loop
-past-step-requires c κs = search step-few
+past-step-requires c κs = (search step-short, search step-few)
 
 loop-less-3 : tie.Need-loop-less-3 Inv-loop μ-loop
 loop-less-3 c = search step-less
@@ -120,8 +115,8 @@ wide-requires c κs = search needs
 element-write-book-5 : tie.Need-element-write-book-5 Inv-loop μ-loop
 element-write-book-5 c = search done-low
 
-element-copy-out-book-2 : tie.Need-element-copy-out-book-2 Inv-loop μ-loop
-element-copy-out-book-2 c = search done-run
+element-copy-out-book : tie.Need-element-copy-out-book Inv-loop μ-loop
+element-copy-out-book c = search done-run
 
 add-book-2 : tie.Need-add-book-2 Inv-loop μ-loop
 add-book-2 c = search done-fits
@@ -179,12 +174,10 @@ read-by-spec =
     loop-less-2
     loop-again-2
     enum-known-command-2
-    code-of-requires
     mul-book
     element-write-book-2
-    sub-book
-    element-copy-out-book
     add-book
+    sub-book
     element-write-book-3
     past-step-requires
     loop-less-3
@@ -197,7 +190,7 @@ read-by-spec =
     enum-known-command-4
     wide-requires
     element-write-book-5
-    element-copy-out-book-2
+    element-copy-out-book
     add-book-2
     element-write-book-6
     past-done-requires

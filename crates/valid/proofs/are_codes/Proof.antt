@@ -7,8 +7,8 @@ use Rattle.valid.proofs.are_codes.Tie as tie
 largest-code-requires : tie.Need-largest-code-requires
 largest-code-requires c κs = search needs
 
-cast-result : tie.Need-cast-result
-cast-result c = search needs
+add-result : tie.Need-add-result
+add-result c = search needs
 
 mul-result : tie.Need-mul-result
 mul-result c = search needs
@@ -22,4 +22,4 @@ returns c = search column-answer
 pub are-codes-spec : {M : Type 1} → statement M
 are-codes-spec =
     tie.close
-    (tie.spec largest-code-requires cast-result mul-result largest-code-requires-2 returns)
+    (tie.spec largest-code-requires add-result mul-result largest-code-requires-2 returns)

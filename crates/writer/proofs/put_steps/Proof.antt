@@ -6,7 +6,7 @@ use borrow.Author.Needs.{needs}
 use lib.ListN.{length}
 use Rattle.buffer.proofs.InTurn.{putting-exact, putting-left, putting-next, putting-all}
 use Rattle.writer.specs.inner.Groups.{bytes-of, step-commands}
-use Rattle.writer.proofs.GroupLaws.{PuttingAll, step-piece, step-pieces, step-put}
+use Rattle.writer.proofs.GroupLaws.{PuttingAll, step-piece, step-pieces, step-room, step-put}
 use Rattle.writer.proofs.put_steps.Statement.{statement}
 use Rattle.writer.proofs.put_steps.Tie as tie
 
@@ -38,7 +38,7 @@ part-put-step-end : tie.Need-part-put-step-end Inv-loop μ-loop
 part-put-step-end c = search needs
 
 put-step-requires : tie.Need-put-step-requires Inv-loop μ-loop
-put-step-requires c κs = putting-left (c .before .before .before .before .loop .inv) (c .before .before .before .loop-test .taken)
+put-step-requires c κs = step-room _ _ (c .before .step-coded .ensures) (putting-left (c .before .before .before .before .loop .inv) (c .before .before .before .loop-test .taken))
 
 loop-again : tie.Need-loop-again Inv-loop μ-loop
 loop-again c = search (putting-next, le-refl, step-put)
