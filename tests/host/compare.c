@@ -132,7 +132,10 @@ static void compare_call(deck_gate *record, int step, int run, int want, const c
     expect(memcmp(record, &next, sizeof next) == 0, what);
 }
 
-static uint64_t draw_touch(source *s) { return below(s, DECK_KINDS) * DECK_POSITIONS + (below(s, 2) ? below(s, DECK_POSITIONS) : DECK_HOME); }
+static uint64_t draw_touch(source *s) {
+    unsigned position = below(s, 2) ? below(s, DECK_POSITIONS) : DECK_HOME;
+    return below(s, DECK_KINDS) * DECK_POSITIONS + position;
+}
 
 /* Changes a record in one way, after which it may still be sound: some byte, every byte, a flag, a number, a step, a length, a count or a kept step. */
 static void alter_record(source *s, deck_gate *record) {
