@@ -52,6 +52,7 @@ enum deck_number {
     DECK_GATE_DAMAGED = 26, /* gate: a table of the record out of range, or not in agreement with another */
     DECK_RUN_TOO_LONG = 30, /* 33rd step of a run, also where it is the 129th of the book; the run has to be split */
     DECK_TOO_MANY_STEPS = 31, /* 129th step of the book; the book has to be split */
+    DECK_GATE_TAKEN_BACK = 32, /* gate: run taken back already */
 };
 
 enum deck_verdict { DECK_REFUSED = 0, DECK_PASSED = 1, DECK_TANGLED = 2 };
@@ -106,11 +107,12 @@ deck_answer deck_arc(const uint8_t *book, size_t book_len, size_t from, size_t t
 deck_answer deck_write(const uint8_t *book, size_t book_len, uint8_t *out, size_t out_len);
 
 /* A gate, as deck_open hands it back. It holds no pointer, so a copy of it is a gate of its own. Programs may read it; only the calls below may write
-   to it. A call refuses it by 26, and changes nothing, unless its tables are in range and agree with one another: `pairs`, `cuts` and `withdrawn`
-   hold 0 and 1 alone; there are at most DECK_RUNS runs, DECK_RUN_STEPS steps in a run and DECK_STEPS in all; each of `steps` is the code of a step;
-   `total` is the sum of `lengths`; each of `counts` is how often the kept list has the run, at most its length, and `kept_count` is their sum;
-   `lengths`, `steps` and `kept` are 0 behind the runs, the steps and the kept steps. So is every record that deck_open hands back, and that
-   a call leaves of such a one. Any other that is so is taken as the gate of the book, the kept list and the withdrawn runs that it holds.
+   to it. A call refuses it by 26, and changes nothing, unless its tables are in range and agree with one another: `pairs`, `cuts`, `withdrawn` and
+   `taken_back` hold 0 and 1 alone; there are at most DECK_RUNS runs, DECK_RUN_STEPS steps in a run and DECK_STEPS in all; each of `steps` is the code
+   of a step; `total` is the sum of `lengths`; each of `counts` is how often the kept list has the run, at most its length, and `kept_count` is their
+   sum; `lengths`, `steps` and `kept` are 0 behind the runs, the steps and the kept steps; each run taken back is withdrawn, and its count is 0. So is
+   every record that deck_open hands back, and that a call leaves of such a one. Any other that is so is taken as the gate of the book, the kept list,
+   the withdrawn runs and the runs taken back that it holds.
 
    The code of a touch is kind * DECK_POSITIONS + position, below DECK_TOUCHES. That of a single step is the code of its touch; that of a transfer is
    (t2 + 1) * (uint64_t)DECK_TOUCHES + t1, with the codes t1 and t2 of its first and its second touch. So a code below DECK_TOUCHES is of a single step,
@@ -127,6 +129,7 @@ typedef struct {
     uint64_t total; /* the number of steps */
     uint64_t kept_count;
     uint8_t withdrawn[DECK_RUNS]; /* 1 for each withdrawn run, else 0 */
+    uint8_t taken_back[DECK_RUNS]; /* 1 for each run taken back, else 0 */
 } deck_gate;
 
 typedef struct {
@@ -140,9 +143,10 @@ static_assert
 #else
 _Static_assert
 #endif
-    (sizeof(deck_gate) == 9672 && offsetof(deck_gate, withdrawn) == 9656 && sizeof(deck_opened) == 9688, "no padding");
+    (sizeof(deck_gate) == 9688 && offsetof(deck_gate, withdrawn) == 9656 && offsetof(deck_gate, taken_back) == 9672 && sizeof(deck_opened) == 9704,
+     "no padding");
 
-/* Opens a gate over the book, whose own history plays no part: no step is kept, no run withdrawn. Refused as the book is. */
+/* Opens a gate over the book, whose own history plays no part: no step is kept, no run withdrawn or taken back. Refused as the book is. */
 deck_opened deck_open(const uint8_t *book, size_t book_len);
 
 /* Steps a run: refused by 26, 20, 21, 22, 23 in that order; else the run joins the end of the kept list, and the value is its place there. */
@@ -151,9 +155,13 @@ deck_answer deck_step(deck_gate *gate, uint8_t run);
 /* Withdraws a run: refused by 26, 20, 21, 22 in that order; else the run is withdrawn, and the kept list stays. The value is 0. */
 deck_answer deck_withdraw(deck_gate *gate, uint8_t run);
 
-/* Opens a gate over the book and makes the calls in turn on it. Two bytes a call: 0x53 and a run steps it, 0x57 and a run withdraws it. Two bytes
-   an answer, in order, to the front of `answers`, all other bytes unchanged: 0 and the place of an admitted step; 1 and 0 for a withdrawn run;
-   2 and the number of a refusal, 20 to 23. The value is the number of calls made. */
+/* Takes a run back, which may be withdrawn or complete: refused by 26, 20, 32 in that order; else its steps leave the kept list, the others stay in
+   order, and the run is withdrawn, if it was not. The value is 0. A step of another run, refused by 23 before, may be admitted afterwards. */
+deck_answer deck_take_back(deck_gate *gate, uint8_t run);
+
+/* Opens a gate over the book and makes the calls in turn on it. Two bytes a call: 0x53 and a run steps it, 0x57 and a run withdraws it, 0x54 and a run
+   takes it back. Two bytes an answer, in order, to the front of `answers`, all other bytes unchanged: 0 and the place of an admitted step; 1 and 0 for
+   a withdrawn run; 2 and the number of a refusal, 20 to 23 or 32; 3 and 0 for a run taken back. The value is the number of calls made. */
 deck_answer deck_replay(const uint8_t *book, size_t book_len, const uint8_t *calls, size_t calls_len, uint8_t *answers, size_t answers_len);
 
 #ifdef __cplusplus

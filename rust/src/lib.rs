@@ -44,6 +44,7 @@ struct RawGate {
     total: u64,
     kept_count: u64,
     withdrawn: [u8; RUNS],
+    taken_back: [u8; RUNS],
 }
 
 #[repr(C)]
@@ -54,7 +55,7 @@ struct RawOpened {
 }
 
 // As `include/deck.h` asserts.
-const _: () = assert!(std::mem::size_of::<RawGate>() == 9672 && std::mem::size_of::<RawOpened>() == 9688);
+const _: () = assert!(std::mem::size_of::<RawGate>() == 9688 && std::mem::size_of::<RawOpened>() == 9704);
 
 // Of `enum deck_verdict`.
 const PASSED: u64 = 1;
@@ -80,6 +81,7 @@ extern "C" {
     fn deck_open(book: *const u8, len: usize) -> RawOpened;
     fn deck_step(gate: *mut RawGate, run: u8) -> RawAnswer;
     fn deck_withdraw(gate: *mut RawGate, run: u8) -> RawAnswer;
+    fn deck_take_back(gate: *mut RawGate, run: u8) -> RawAnswer;
     fn deck_replay(book: *const u8, len: usize, calls: *const u8, calls_len: usize, answers: *mut u8, answers_len: usize) -> RawAnswer;
 }
 
@@ -135,6 +137,7 @@ causes! {
     Damaged = 26, "gate: a table of the record out of range, or not in agreement with another";
     RunTooLong = 30, "33rd step of a run; the run has to be split";
     TooManySteps = 31, "129th step of the book; the book has to be split";
+    TakenBack = 32, "gate: run taken back already";
 }
 
 /// What was turned away: why, and the offset at which it was found (0 where it has none).
@@ -263,6 +266,7 @@ pub fn write(book: &[u8]) -> Result<Vec<u8>, Refusal> {
 pub enum Call {
     Step(u8),
     Withdraw(u8),
+    TakeBack(u8),
 }
 
 /// What the gate answers.
@@ -271,7 +275,8 @@ pub enum Reply {
     /// The place of an admitted step.
     Place(u8),
     Withdrawn,
-    /// The run is not declared, is withdrawn, has all its steps kept, or is tangled.
+    TakenBack,
+    /// The run is not declared, is withdrawn, has all its steps kept, is tangled, or was taken back already.
     Refused(Cause),
 }
 
@@ -282,7 +287,7 @@ pub struct Gate {
 }
 
 impl Gate {
-    /// A gate over the book, whose own history plays no part: no step is kept, no run withdrawn.
+    /// A gate over the book, whose own history plays no part: no step is kept, no run withdrawn or taken back.
     pub fn open(book: &[u8]) -> Result<Gate, Refusal> {
         let RawOpened { number, place, gate } = unsafe { deck_open(book.as_ptr(), book.len()) };
         answered(RawAnswer { number, place, value: 0 })?;
@@ -305,15 +310,33 @@ impl Gate {
         }
     }
 
+    /// Takes the run back, which may be withdrawn or complete, or is refused and changes nothing. The run's steps leave the kept list, the others stay
+    /// in order, and the run is withdrawn. A step of another run, refused as tangled before, may be admitted afterwards.
+    pub fn take_back(&mut self, run: u8) -> Reply {
+        match answered(unsafe { deck_take_back(&mut *self.record, run) }) {
+            Ok(_) => Reply::TakenBack,
+            Err(refusal) => Reply::Refused(refusal.cause),
+        }
+    }
+
     /// The run numbers of the kept steps, in order.
     pub fn kept(&self) -> &[u8] {
         &self.record.kept[..self.record.kept_count as usize]
     }
 
-    /// The withdrawn runs, in rising order.
+    /// The withdrawn runs, those taken back included, in rising order.
     pub fn withdrawn(&self) -> Vec<u8> {
-        (0..RUNS as u8).filter(|&run| self.record.withdrawn[run as usize] == 1).collect()
+        flagged(&self.record.withdrawn)
     }
+
+    /// The runs taken back, in rising order.
+    pub fn taken_back(&self) -> Vec<u8> {
+        flagged(&self.record.taken_back)
+    }
+}
+
+fn flagged(flags: &[u8; RUNS]) -> Vec<u8> {
+    (0..RUNS as u8).filter(|&run| flags[run as usize] == 1).collect()
 }
 
 /// The answers of a gate newly opened over the book to a list of calls, made in turn.
@@ -323,6 +346,7 @@ pub fn replay(book: &[u8], calls: &[Call]) -> Result<Vec<Reply>, Refusal> {
         .flat_map(|call| match *call {
             Call::Step(run) => [0x53, run],
             Call::Withdraw(run) => [0x57, run],
+            Call::TakeBack(run) => [0x54, run],
         })
         .collect();
     let mut answers = vec![0u8; bytes.len()];
@@ -332,6 +356,7 @@ pub fn replay(book: &[u8], calls: &[Call]) -> Result<Vec<Reply>, Refusal> {
         .map(|answer| match answer[0] {
             0 => Reply::Place(answer[1]),
             1 => Reply::Withdrawn,
+            3 => Reply::TakenBack,
             _ => Reply::Refused(cause_of(answer[1].into())),
         })
         .collect())
@@ -493,6 +518,42 @@ mod tests {
         assert_eq!([gate.step(0), gate.step(1), gate.step(2)], [Cause::Withdrawn, Cause::AllKept, Cause::NotDeclared].map(Reply::Refused));
         assert_eq!((gate.kept(), gate.withdrawn()), (&[0, 1, 1][..], vec![0]));
         assert_eq!(Gate::open(&[0x45, 0x45]).err(), Some(Refusal { cause: Cause::BytesAfterEnd, place: 1 }));
+    }
+
+    #[test]
+    fn a_tangled_run_is_admitted_after_another_was_taken_back() {
+        let mut gate = Gate::open(&book("row02")).unwrap();
+        assert_eq!([gate.step(0), gate.step(1), gate.step(1)], [Reply::Place(0), Reply::Place(1), Reply::Place(2)]);
+        assert_eq!(gate.step(0), Reply::Refused(Cause::Tangled));
+        assert_eq!(gate.take_back(1), Reply::TakenBack);
+        assert_eq!((gate.kept(), gate.withdrawn(), gate.taken_back()), (&[0][..], vec![1], vec![1]));
+        assert_eq!(gate.step(0), Reply::Place(1));
+        assert_eq!([gate.step(1), gate.withdraw(1)], [Reply::Refused(Cause::Withdrawn); 2]);
+        assert_eq!([gate.take_back(1), gate.take_back(2)], [Cause::TakenBack, Cause::NotDeclared].map(Reply::Refused));
+        assert_eq!((gate.kept(), gate.withdrawn(), gate.taken_back()), (&[0, 0][..], vec![1], vec![1]));
+    }
+
+    #[test]
+    fn a_withdrawn_run_and_a_complete_one_are_taken_back() {
+        let mut gate = Gate::open(&book("row02")).unwrap();
+        assert_eq!([gate.step(0), gate.step(1), gate.step(1)], [Reply::Place(0), Reply::Place(1), Reply::Place(2)]);
+        assert_eq!([gate.withdraw(0), gate.withdraw(1)], [Reply::Withdrawn, Reply::Refused(Cause::AllKept)]);
+        assert_eq!((gate.withdrawn(), gate.taken_back()), (vec![0], vec![]));
+        assert_eq!(gate.take_back(0), Reply::TakenBack);
+        assert_eq!((gate.kept(), gate.withdrawn(), gate.taken_back()), (&[1, 1][..], vec![0], vec![0]));
+        assert_eq!(gate.take_back(1), Reply::TakenBack);
+        assert_eq!((gate.kept(), gate.withdrawn(), gate.taken_back()), (&[][..], vec![0, 1], vec![0, 1]));
+    }
+
+    #[test]
+    fn a_replay_takes_runs_back() {
+        use Call::{Step, TakeBack, Withdraw};
+        use Reply::{Place, Refused, TakenBack};
+        let calls = [Step(0), Step(1), Step(1), Step(0), TakeBack(1), Step(0), Step(1), Withdraw(1), TakeBack(1), TakeBack(2), TakeBack(0)];
+        let (tangled, withdrawn) = (Refused(Cause::Tangled), Refused(Cause::Withdrawn));
+        let (again, not_declared) = (Refused(Cause::TakenBack), Refused(Cause::NotDeclared));
+        let answers = [Place(0), Place(1), Place(2), tangled, TakenBack, Place(1), withdrawn, withdrawn, again, not_declared, TakenBack];
+        assert_eq!(replay(&book("row02"), &calls), Ok(answers.to_vec()));
     }
 
     #[test]

@@ -1,7 +1,8 @@
-/* Times the proved reader and judge against plain.c, on the same full books in the same run, the gate's 128th step, at 127 kept steps, against a judge call
-   on the same book, and reader and judge on books of transfers against themselves on the same books of single steps, which have the first touches alone (in
-   these two both are proved); prints the ratios. Reader and judge read the book's bytes each time; the gate's time includes a copy of its record and the
-   test that it is sound. All are built with -O3; no buffer is cleared beforehand. */
+/* Times the proved reader and judge against plain.c, on the same full books in the same run, the gate's 128th step, at 127 kept steps, and a take-back at
+   128 kept steps against a judge call on the same book, a take-back at 127 against a withdrawal of the same run (at 128 it is refused by 22), and reader
+   and judge on books of transfers against themselves on the same books of single steps, which have the first touches alone (in all but the first both are
+   proved); prints the ratios. Reader and judge read the book's bytes each time; the gate's time includes a copy of its record and the test that it is
+   sound. All are built with -O3; no buffer is cleared beforehand. */
 #include "books.h"
 #include "plain.h"
 #include <stdio.h>
@@ -11,7 +12,7 @@ enum { BOOKS = 24, REPEATS = 60 };
 
 static uint8_t books[BOOKS][BOOK_ROOM], singles[BOOKS][BOOK_ROOM]; /* the same with single steps */
 static size_t lengths[BOOKS], singles_lengths[BOOKS];
-static deck_gate gates[BOOKS];
+static deck_gate gates[BOOKS], full_gates[BOOKS]; /* which keep all steps of the history but the last, and all */
 static volatile uint64_t sink;
 
 static double now(void) {
@@ -38,11 +39,16 @@ static void proved_judge(int j) { judge(books[j], lengths[j]); }
 static void proved_judge_singles(int j) { judge(singles[j], singles_lengths[j]); }
 static void proved_read_singles(int j) { sink += deck_read(singles[j], singles_lengths[j]).value; }
 
-/* The history's last step, on a gate that keeps all steps before it. */
-static void proved_step(int j) {
-    deck_gate g = gates[j];
-    sink += deck_step(&g, books[j][lengths[j] - 2]).value;
+/* Makes a call for the run of the history's last step, on a copy of the gate. */
+static void proved_call(const deck_gate *gate, deck_answer (*call)(deck_gate *gate, uint8_t run), int j) {
+    deck_gate g = *gate;
+    sink += call(&g, books[j][lengths[j] - 2]).value;
 }
+
+static void proved_step(int j) { proved_call(&gates[j], deck_step, j); }
+static void proved_withdraw(int j) { proved_call(&gates[j], deck_withdraw, j); }
+static void proved_take_back(int j) { proved_call(&gates[j], deck_take_back, j); }
+static void proved_take_back_full(int j) { proved_call(&full_gates[j], deck_take_back, j); }
 
 static void plain_judges(int j) {
     uint8_t order[DECK_STEPS], cycle[DECK_STEPS];
@@ -105,17 +111,25 @@ static int fill(const shape *f, int want, uint64_t seed) {
     return found == BOOKS;
 }
 
-/* A gate over each book, which keeps the history but its last step; 0 if one of them is refused. */
+/* Fills both gates over each book; 0 if a step is refused. */
 static int keep_steps(void) {
     for (int j = 0; j < BOOKS; j++) {
         plain_book b;
         plain_read(books[j], lengths[j], &b);
-        gates[j] = deck_open(books[j], lengths[j]).gate;
-        for (int p = 0; p + 1 < b.n; p++)
-            if (deck_step(&gates[j], b.history[p]).number)
+        full_gates[j] = deck_open(books[j], lengths[j]).gate;
+        for (int p = 0; p < b.n; p++) {
+            gates[j] = full_gates[j];
+            if (deck_step(&full_gates[j], b.history[p]).number)
                 return 0;
+        }
     }
     return 1;
+}
+
+static void compare_gates(void) {
+    compare("", "gate's 128th step", proved_step, "judge call on the same book", proved_judge);
+    compare("", "take-back at 128 kept steps", proved_take_back_full, "judge call on the same book", proved_judge);
+    compare("", "take-back at 127 kept steps", proved_take_back, "withdrawal of the same run", proved_withdraw);
 }
 
 int main(void) {
@@ -154,7 +168,7 @@ int main(void) {
             compare("", "reading alone", proved_read, "same book of single steps", proved_read_singles);
         }
         if (cases[k].passed && keep_steps())
-            compare("", "gate's 128th step", proved_step, "judge call on the same book", proved_judge);
+            compare_gates();
     }
     return 0;
 }

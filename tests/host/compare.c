@@ -7,7 +7,7 @@ enum { CALLS = 200 }; /* in a list, at most */
 enum { ROOM = DECK_BUFFER + 72 }; /* of each buffer, filled beforehand so that a stray byte shows */
 enum { SHORT = 6 }; /* done steps, at most, of a history on whose every pair of places the arcs are compared */
 
-long altered_records[2], arc_answers[ARC_SUMS];
+long altered_records[2], take_backs[BACK_COUNTS], arc_answers[ARC_SUMS];
 
 static int untouched(const uint8_t *buffer, size_t from, size_t len, uint8_t fill) {
     for (size_t i = from; i < len; i++)
@@ -31,8 +31,10 @@ static size_t draw_list(source *s, const uint8_t *found, size_t count, unsigned 
         list[i] = list[j];
         list[j] = x;
     }
-    if (len && below(s, 4) == 0)
-        list[below(s, (unsigned)len)] = (uint8_t)draw(s);
+    if (len && below(s, 4) == 0) {
+        size_t at = below(s, (unsigned)len);
+        list[at] = (uint8_t)draw(s);
+    }
     return len;
 }
 
@@ -86,7 +88,7 @@ static void compare_writer(source *s, const uint8_t *book, size_t len, plain_ref
     }
 }
 
-/* The record is that of the plain gate: sound, with its book, kept list and withdrawn runs, and each listed pair a, b with a at most b. */
+/* The record is that of the plain gate: sound, with its book, kept list, withdrawn runs and runs taken back, and each listed pair a, b with a at most b. */
 static int same_gate(const deck_gate *live, const plain_gate *g) {
     plain_gate held;
     if (!plain_sound(live))
@@ -108,28 +110,64 @@ static deck_gate compare_opening(const uint8_t *book, size_t len, plain_refusal 
     return o.gate;
 }
 
+/* The kinds of call to a gate. */
+typedef enum { STEP, WITHDRAW, TAKE_BACK, CALL_KINDS } call_kind;
+
+static const struct {
+    uint8_t byte; /* in a list of calls */
+    uint8_t answer; /* the first byte of a replay's answer to a call that is carried out */
+    deck_answer (*proved)(deck_gate *gate, uint8_t run);
+    int (*plain)(plain_gate *g, int r); /* the answer, or minus the number of the refusal */
+} gate_calls[CALL_KINDS] = {
+    [STEP] = {0x53, 0, deck_step, plain_step},
+    [WITHDRAW] = {0x57, 1, deck_withdraw, plain_withdraw},
+    [TAKE_BACK] = {0x54, 3, deck_take_back, plain_take_back},
+};
+enum { REFUSED = 2 }; /* the first byte of a replay's answer to a refused call */
+
+/* The kind of the call that the byte is. */
+static call_kind kind_of(uint8_t byte) {
+    call_kind kind = STEP;
+    while (gate_calls[kind].byte != byte)
+        kind++;
+    return kind;
+}
+
+/* The record that a call leaves of this one where it is carried out. */
+static deck_gate after_call(const deck_gate *record, call_kind kind, unsigned run) {
+    deck_gate next = *record;
+    if (kind == STEP) {
+        next.kept[next.kept_count++] = (uint8_t)run;
+        next.counts[run]++;
+        return next;
+    }
+    next.withdrawn[run] = 1;
+    if (kind == WITHDRAW)
+        return next;
+    next.taken_back[run] = 1;
+    next.counts[run] = 0;
+    next.kept_count = 0;
+    memset(next.kept, 0, sizeof next.kept);
+    for (uint64_t p = 0; p < record->kept_count; p++)
+        if (record->kept[p] != run)
+            next.kept[next.kept_count++] = record->kept[p];
+    return next;
+}
+
+/* Makes a call on the record: compares its answer with the one wanted, given as by plain.c, and every byte of the record after it. */
+static void compare_call(deck_gate *record, call_kind kind, int run, int want, const char *what) {
+    deck_gate next = want < 0 ? *record : after_call(record, kind, (unsigned)run);
+    deck_answer a = gate_calls[kind].proved(record, (uint8_t)run);
+    compare_answer(a, (plain_refusal){want < 0 ? -want : 0, 0}, want, what);
+    expect(memcmp(record, &next, sizeof next) == 0, what);
+}
+
 /* Opens a gate over a refused book: it has no runs. */
 static void compare_refused_gate(const uint8_t *book, size_t len, plain_refusal r) {
     plain_gate empty = {0};
     deck_gate live = compare_opening(book, len, r, &empty);
-    expect(deck_step(&live, 0).number == DECK_GATE_NOT_DECLARED, "gate: a step on a gate without runs");
-    expect(deck_withdraw(&live, 0).number == DECK_GATE_NOT_DECLARED, "gate: a withdrawal on a gate without runs");
-}
-
-/* The plain gate's answer to a call, as plain_step and plain_withdraw give it. */
-static int plain_call(plain_gate *g, int step, int run) { return step ? plain_step(g, run) : plain_withdraw(g, run); }
-
-/* Makes a call on the record: compares its answer with the one wanted, given as by plain_call, and every byte of the record after it. */
-static void compare_call(deck_gate *record, int step, int run, int want, const char *what) {
-    deck_gate next = *record;
-    if (want >= 0 && step) {
-        next.kept[next.kept_count++] = (uint8_t)run;
-        next.counts[run]++;
-    } else if (want >= 0)
-        next.withdrawn[run] = 1;
-    deck_answer a = step ? deck_step(record, (uint8_t)run) : deck_withdraw(record, (uint8_t)run);
-    compare_answer(a, (plain_refusal){want < 0 ? -want : 0, 0}, want, what);
-    expect(memcmp(record, &next, sizeof next) == 0, what);
+    for (call_kind kind = 0; kind < CALL_KINDS; kind++)
+        compare_call(&live, kind, 0, -DECK_GATE_NOT_DECLARED, "gate: a call on a gate without runs");
 }
 
 static uint64_t draw_touch(source *s) {
@@ -137,67 +175,106 @@ static uint64_t draw_touch(source *s) {
     return below(s, DECK_KINDS) * DECK_POSITIONS + position;
 }
 
-/* Changes a record in one way, after which it may still be sound: some byte, every byte, a flag, a number, a step, a length, a count or a kept step. */
-static void alter_record(source *s, deck_gate *record) {
-    static const uint64_t edges[] = {0, DECK_RUNS, DECK_RUNS + 1, DECK_STEPS, DECK_STEPS + 1, UINT64_MAX};
-    static const uint64_t codes[] = {DECK_TOUCHES, DECK_TOUCHES * (DECK_TOUCHES + 1ull), UINT64_MAX}; /* of the first transfer, behind the last, the largest */
-    uint64_t *numbers[] = {&record->declared, &record->total, &record->kept_count}, *number = numbers[below(s, 3)];
-    unsigned runs = below(s, 2) ? DECK_RUNS : 2, steps = below(s, 2) ? DECK_STEPS : 4; /* most books have 2 and 4 */
-    unsigned r = below(s, runs), q = below(s, runs), p = below(s, steps);
-    uint8_t *bytes = (uint8_t *)record, length = (uint8_t)below(s, DECK_RUN_STEPS + 2);
-    switch (below(s, 17)) {
+/* Any run, or one of the two that most books have. */
+static unsigned draw_run(source *s) {
+    unsigned runs = below(s, 2) ? DECK_RUNS : 2;
+    return below(s, runs);
+}
+
+/* Any place in a table of steps, or one of the four that most books have. */
+static unsigned draw_place(source *s) {
+    unsigned steps = below(s, 2) ? DECK_STEPS : 4;
+    return below(s, steps);
+}
+
+/* Each of the next six changes a record in one way, after which it may still be sound. This one: some byte, or every byte. */
+static void alter_bytes(source *s, deck_gate *record) {
+    uint8_t *bytes = (uint8_t *)record;
+    size_t at = below(s, sizeof *record);
+    int all = below(s, 2) == 0;
+    for (size_t i = 0; i < sizeof *record; i++)
+        if (all || i == at)
+            bytes[i] = (uint8_t)draw(s);
+}
+
+/* A flag of the pairs, the cuts or the withdrawn runs. */
+static void alter_flag(source *s, deck_gate *record) {
+    uint8_t flag = (uint8_t)below(s, 3);
+    switch (below(s, 3)) {
     case 0:
-        bytes[below(s, sizeof *record)] = (uint8_t)draw(s);
+        record->pairs[below(s, sizeof record->pairs)] = flag;
         break;
     case 1:
-        for (size_t i = 0; i < sizeof *record; i++)
-            bytes[i] = (uint8_t)draw(s);
+        record->cuts[below(s, sizeof record->cuts)] = flag;
         break;
-    case 2:
-        record->pairs[below(s, sizeof record->pairs)] = (uint8_t)below(s, 3);
-        break;
-    case 3:
-        record->cuts[below(s, sizeof record->cuts)] = (uint8_t)below(s, 3);
-        break;
-    case 4:
-        record->withdrawn[r] = (uint8_t)below(s, 3);
-        break;
-    case 5:
+    default:
+        record->withdrawn[draw_run(s)] = flag;
+    }
+}
+
+/* The flag of a run taken back: alone, with the withdrawn flag, or with this and the run's steps out of the kept list. */
+static void alter_taken_back(source *s, deck_gate *record) {
+    unsigned r = draw_run(s), way = below(s, 3);
+    if (way == 2 && record->kept_count <= DECK_STEPS)
+        *record = after_call(record, TAKE_BACK, r);
+    if (way > 0)
+        record->withdrawn[r] = 1;
+    record->taken_back[r] = (uint8_t)below(s, 3);
+}
+
+/* The number of runs, of steps or of kept steps. */
+static void alter_number(source *s, deck_gate *record) {
+    static const uint64_t edges[] = {0, DECK_RUNS, DECK_RUNS + 1, DECK_STEPS, DECK_STEPS + 1, UINT64_MAX};
+    uint64_t *numbers[] = {&record->declared, &record->total, &record->kept_count}, *number = numbers[below(s, 3)];
+    if (below(s, 2))
         *number = edges[below(s, sizeof edges / sizeof *edges)];
-        break;
-    case 6:
+    else
         *number += below(s, 2) ? 1 : UINT64_MAX; /* one more or one less */
-        break;
-    case 7:
+}
+
+/* A step or a length. */
+static void alter_step(source *s, deck_gate *record) {
+    static const uint64_t codes[] = {DECK_TOUCHES, DECK_TOUCHES * (DECK_TOUCHES + 1ull), UINT64_MAX}; /* of the first transfer, behind the last, the largest */
+    unsigned r = draw_run(s), p = draw_place(s);
+    uint8_t length = (uint8_t)below(s, DECK_RUN_STEPS + 2);
+    switch (below(s, 4)) {
+    case 0:
         record->steps[p] = draw_touch(s);
         if (below(s, 2))
             record->steps[p] += (draw_touch(s) + 1) * DECK_TOUCHES;
         break;
-    case 8:
-        record->steps[p] = codes[below(s, sizeof codes / sizeof *codes)] - below(s, 2);
+    case 1:
+        record->steps[p] = codes[below(s, sizeof codes / sizeof *codes)];
+        record->steps[p] -= below(s, 2);
         break;
-    case 9: /* with the sum of the lengths */
+    case 2: /* with the sum of the lengths */
         record->total += (uint64_t)length - record->lengths[r];
         record->lengths[r] = length;
         break;
-    case 10:
+    default:
         record->lengths[r] = length;
-        break;
-    case 11:
+    }
+}
+
+/* A count or a kept step. */
+static void alter_kept(source *s, deck_gate *record) {
+    unsigned r = draw_run(s), q = draw_run(s), p = draw_place(s);
+    switch (below(s, 6)) {
+    case 0:
         record->counts[r]++;
         break;
-    case 12: /* with the sum of the counts */
+    case 1: /* with the sum of the counts */
         record->counts[r]++;
         record->counts[q]--;
         break;
-    case 13: /* with its count */
+    case 2: /* with its count */
         record->counts[r]++;
         record->kept[record->kept_count++ % DECK_STEPS] = (uint8_t)r;
         break;
-    case 14: /* of no run */
+    case 3: /* of no run */
         record->kept[record->kept_count++ % DECK_STEPS] = DECK_RUNS;
         break;
-    case 15:
+    case 4:
         record->kept[p] = (uint8_t)r;
         break;
     default: /* with both counts */
@@ -208,7 +285,16 @@ static void alter_record(source *s, deck_gate *record) {
     }
 }
 
-/* At times changes a copy of the record and makes a withdrawal and a step on it: where the copy is sound as on its plain gate, else refused by 26. */
+/* Changes a record in one way. */
+static void alter_record(source *s, deck_gate *record) {
+    static void (*const ways[])(source *s, deck_gate *record) = {
+        alter_bytes, alter_flag, alter_taken_back, alter_number, alter_step, alter_step, alter_kept, alter_kept, /* the last two with twice the chance */
+    };
+    ways[below(s, sizeof ways / sizeof *ways)](s, record);
+}
+
+/* At times changes a copy of the record and makes a call of each kind on it, any of them first: where the copy is sound as on its plain gate, else refused
+   by 26. */
 static void compare_altered(const deck_gate *live) {
     static source s = {20261116}; /* of its own, so that the books stay as they are */
     deck_gate record = *live;
@@ -223,33 +309,93 @@ static void compare_altered(const deck_gate *live) {
     if (sound)
         plain_gate_of(&record, &g);
     altered_records[sound]++;
-    for (int step = 0; step < 2; step++) {
-        int run = (int)below(&s, below(&s, 4) ? DECK_RUNS : UINT8_MAX + 1);
-        compare_call(&record, step, run, sound ? plain_call(&g, step, run) : -DECK_GATE_DAMAGED, "gate: a call on an altered record");
+    unsigned first = below(&s, CALL_KINDS);
+    for (unsigned k = 0; k < CALL_KINDS; k++) {
+        call_kind kind = (first + k) % CALL_KINDS;
+        int run = (int)(below(&s, 4) ? draw_run(&s) : below(&s, UINT8_MAX + 1));
+        compare_call(&record, kind, run, sound ? gate_calls[kind].plain(&g, run) : -DECK_GATE_DAMAGED, "gate: a call on an altered record");
     }
+}
+
+/* What became of each run number in the calls so far. */
+typedef struct {
+    int withdrawn[UINT8_MAX + 1]; /* by a withdrawal or a take-back */
+    int tangled[UINT8_MAX + 1]; /* a step was refused as tangled since the last take-back that was carried out */
+    int tangled_before[UINT8_MAX + 1]; /* one was so before it, and none was admitted since */
+} past;
+
+/* Checks demand 3's sentences at a call and its answer, given as by plain.c: a withdrawn run is never admitted later, a tangled one not up to the next
+   take-back that is carried out. */
+static void check_sentences(past *h, call_kind kind, int run, int want) {
+    if (want == -DECK_GATE_TANGLED)
+        h->tangled[run] = 1;
+    if (want < 0)
+        return;
+    if (kind == STEP) {
+        expect(!h->withdrawn[run], "gate: a withdrawn run admitted later");
+        expect(!h->tangled[run], "gate: a tangled run admitted before a take-back");
+        take_backs[BACK_ADMITTED] += h->tangled_before[run];
+        h->tangled_before[run] = 0;
+    } else
+        h->withdrawn[run] = 1;
+    for (int r = 0; kind == TAKE_BACK && r <= UINT8_MAX; r++) {
+        h->tangled_before[r] |= h->tangled[r];
+        h->tangled[r] = 0;
+    }
+}
+
+/* The count to which a take-back on the record belongs, by its answer, given as by plain.c, and the run before it. */
+static int count_of(const deck_gate *record, int run, int want) {
+    if (want < 0)
+        return want == -DECK_GATE_NOT_DECLARED ? BACK_NOT_DECLARED : BACK_AGAIN;
+    if (record->counts[run] == 0)
+        return BACK_NONE_KEPT;
+    if (record->withdrawn[run])
+        return BACK_WITHDRAWN;
+    return record->counts[run] == record->lengths[run] ? BACK_COMPLETE : BACK_OPEN;
+}
+
+/* The judge, called apart from the list, on the book with the kept list. */
+static void compare_kept(const plain_gate *g) {
+    static uint8_t kept[BOOK_ROOM];
+    uint8_t order[DECK_STEPS], cycle[DECK_STEPS];
+    size_t size = plain_write(&g->book, kept);
+    expect(deck_judge(kept, size, order, sizeof order, cycle, sizeof cycle).verdict == DECK_PASSED, "gate: the book with the kept list is passed");
 }
 
 /* Makes n calls one by one on a record and on the plain gate, and at times on an altered copy of the record; compares the answers of a replay with theirs,
    and checks demand 3's sentences. */
 static void compare_calls(const uint8_t *book, size_t len, const plain_book *b, const uint8_t *calls, size_t n, const uint8_t *answers) {
-    static uint8_t kept[BOOK_ROOM];
-    uint8_t order[DECK_STEPS], cycle[DECK_STEPS];
-    int refused[UINT8_MAX + 1] = {0}; /* as tangled, or withdrawn */
+    past h = {0};
     plain_gate g;
     plain_open(b, &g);
     deck_gate live = compare_opening(book, len, (plain_refusal){0, 0}, &g);
     for (size_t i = 0; i < n; i++) {
-        int run = calls[2 * i + 1], step = calls[2 * i] == 0x53, want = plain_call(&g, step, run);
-        int kind = want < 0 ? 2 : step ? 0 : 1, value = want < 0 ? -want : step ? want : 0;
+        call_kind kind = kind_of(calls[2 * i]);
+        int run = calls[2 * i + 1], want = gate_calls[kind].plain(&g, run), value = want < 0 ? -want : want;
+        if (kind == TAKE_BACK)
+            take_backs[count_of(&live, run, want)]++;
         compare_altered(&live);
-        compare_call(&live, step, run, want, "gate: a call on the record");
+        compare_call(&live, kind, run, want, "gate: a call on the record");
         expect(same_gate(&live, &g), "gate: the record after a call");
-        expect(answers[2 * i] == kind && answers[2 * i + 1] == value, "gate: an answer");
-        expect(!(step && kind == 0 && refused[run]), "gate: a tangled or withdrawn run admitted later");
-        refused[run] |= step ? want == -DECK_GATE_TANGLED : want >= 0;
+        expect(answers[2 * i] == (want < 0 ? REFUSED : gate_calls[kind].answer) && answers[2 * i + 1] == value, "gate: an answer");
+        check_sentences(&h, kind, run, want);
+        if (kind == TAKE_BACK && want >= 0)
+            compare_kept(&g);
     }
-    size_t size = plain_write(&g.book, kept);
-    expect(deck_judge(kept, size, order, sizeof order, cycle, sizeof cycle).verdict == DECK_PASSED, "gate: the book with the kept list is passed");
+    compare_kept(&g);
+}
+
+/* Mostly a step. */
+static call_kind draw_kind(source *s) {
+    unsigned k = below(s, 16);
+    return k == 0 ? WITHDRAW : k == 1 ? TAKE_BACK : STEP;
+}
+
+/* A byte that is no call, any of the 253. */
+static uint8_t draw_no_call(source *s) {
+    uint8_t byte = (uint8_t)(0x55 + below(s, 253)); /* none of 0x52, 0x53 and 0x54 */
+    return byte == 0x57 ? 0x52 : byte;
 }
 
 /* Makes a list of calls, at times with a byte that is no call or cut off, by replay, and where it is made compares the answers. */
@@ -257,11 +403,13 @@ static void compare_gate(source *s, const uint8_t *book, size_t len, const plain
     static uint8_t calls[2 * CALLS + 1], answers[2 * CALLS + 8];
     size_t n = below(s, CALLS), bad = 2 * n;
     for (size_t i = 0; i < n; i++) {
-        calls[2 * i] = below(s, 8) ? 0x53 : 0x57;
+        calls[2 * i] = gate_calls[draw_kind(s)].byte;
         calls[2 * i + 1] = (uint8_t)(below(s, 50) ? below(s, (unsigned)b->runs + 1) : draw(s));
     }
-    if (n && below(s, 10) == 0)
-        calls[bad = 2 * (size_t)below(s, (unsigned)n)] = (uint8_t)(0x58 + below(s, 251));
+    if (n && below(s, 10) == 0) {
+        bad = 2 * (size_t)below(s, (unsigned)n);
+        calls[bad] = draw_no_call(s);
+    }
     int cut = below(s, 10) == 0;
     memset(answers, 0x33, sizeof answers);
     deck_answer a = deck_replay(book, len, calls, 2 * n + (size_t)cut, answers, sizeof answers);

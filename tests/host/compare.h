@@ -11,6 +11,11 @@ void compare_book(source *s, const uint8_t *book, size_t len, const plain_book *
 /* How many altered records were compared: those not sound, those sound. */
 extern long altered_records[2];
 
+/* How many take-backs were compared in lists of calls: of a run with kept steps that is withdrawn, complete or neither, of a run with none kept, refused by
+   20, refused by 32. And how many steps were admitted of a run that was refused as tangled before a take-back. */
+enum { BACK_WITHDRAWN, BACK_COMPLETE, BACK_OPEN, BACK_NONE_KEPT, BACK_NOT_DECLARED, BACK_AGAIN, BACK_ADMITTED, BACK_COUNTS };
+extern long take_backs[BACK_COUNTS];
+
 /* How often the arc test was compared on an accepted book, by the sum of enum deck_arcs that plain.c gives. */
 enum { ARC_SUMS = DECK_ARC_I + DECK_ARC_D + DECK_ARC_F + DECK_ARC_B + 1 };
 extern long arc_answers[ARC_SUMS];

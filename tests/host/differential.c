@@ -1,7 +1,7 @@
 /* Compares the proved calls with plain.c on many books from a fixed seed, whole and damaged, and on gates' records, as the calls leave them and altered,
    and checks the evidence of each verdict. Prints 'N passed, M failed', a count of books, and how many altered records there were of each sort, how many
-   answers of the arc test of each sum, and how many books with a transfer, accepted or refused at it; it fails where one of these counts is 0, and where
-   the books lack one of the refusals of a book. */
+   take-backs of each sort, how many steps tangled before a take-back and admitted behind it, how many answers of the arc test of each sum, and how many
+   books with a transfer, accepted or refused at it; it fails where one of these counts is 0, and where the books lack one of the refusals of a book. */
 #include "compare.h"
 #include <stdio.h>
 
@@ -74,9 +74,24 @@ static const uint8_t arc_sums[] = {
     DECK_ARC_D + DECK_ARC_F + DECK_ARC_B,
 };
 
+/* what take_backs counts */
+static const char *const take_back_texts[BACK_COUNTS] = {
+    [BACK_WITHDRAWN] = "take-backs of a withdrawn run with kept steps",
+    [BACK_COMPLETE] = "take-backs of a complete run with kept steps",
+    [BACK_OPEN] = "take-backs of an open run with kept steps",
+    [BACK_NONE_KEPT] = "take-backs of a run with no step kept",
+    [BACK_NOT_DECLARED] = "take-backs refused by 20",
+    [BACK_AGAIN] = "take-backs refused by 32",
+    [BACK_ADMITTED] = "steps refused as tangled, admitted behind a take-back",
+};
+
 int main(void) {
     int status = test_books(20261115, BOOKS, compare);
     printf("altered records: %ld not sound, %ld sound\n", altered_records[0], altered_records[1]);
+    for (int k = 0; k < BACK_COUNTS; k++) {
+        printf("%s: %ld\n", take_back_texts[k], take_backs[k]);
+        status |= !take_backs[k];
+    }
     for (size_t i = 0; i < sizeof arc_sums; i++) {
         printf("answers %d of the arc test: %ld\n", arc_sums[i], arc_answers[arc_sums[i]]);
         status |= !arc_answers[arc_sums[i]];

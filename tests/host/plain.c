@@ -577,6 +577,23 @@ int plain_withdraw(plain_gate *g, int r) {
     return 0;
 }
 
+int plain_take_back(plain_gate *g, int r) {
+    plain_book *b = &g->book;
+    if (r >= b->runs)
+        return -DECK_GATE_NOT_DECLARED;
+    if (g->taken_back[r])
+        return -DECK_GATE_TAKEN_BACK;
+    for (int p = b->n; p-- > 0;)
+        if (b->history[p] == r) {
+            b->n--;
+            memmove(b->history + p, b->history + p + 1, (size_t)(b->n - p));
+            b->history[b->n] = 0;
+        }
+    b->done[r] = 0;
+    g->withdrawn[r] = g->taken_back[r] = 1;
+    return 0;
+}
+
 /* ---- a gate's record */
 
 static const uint64_t step_codes = (uint64_t)DECK_TOUCHES * (DECK_TOUCHES + 1); /* those of steps are below this */
@@ -633,9 +650,18 @@ static int kept_sound(const deck_gate *record) {
     return sum == record->kept_count;
 }
 
+/* each run taken back is withdrawn, and no step of it is kept */
+static int taken_back_sound(const deck_gate *record) {
+    for (int r = 0; r < DECK_RUNS; r++)
+        if (record->taken_back[r] && (!record->withdrawn[r] || record->counts[r] != 0))
+            return 0;
+    return 1;
+}
+
 int plain_sound(const deck_gate *record) {
     return flags(record->pairs, sizeof record->pairs) && flags(record->cuts, sizeof record->cuts) &&
-           flags(record->withdrawn, sizeof record->withdrawn) && runs_sound(record) && kept_sound(record);
+           flags(record->withdrawn, sizeof record->withdrawn) && flags(record->taken_back, sizeof record->taken_back) &&
+           runs_sound(record) && kept_sound(record) && taken_back_sound(record);
 }
 
 void plain_gate_of(const deck_gate *record, plain_gate *g) {
@@ -651,6 +677,7 @@ void plain_gate_of(const deck_gate *record, plain_gate *g) {
         b->length[r] = record->lengths[r];
         b->done[r] = record->counts[r];
         g->withdrawn[r] = record->withdrawn[r];
+        g->taken_back[r] = record->taken_back[r];
     }
     memcpy(b->history, record->kept, sizeof b->history);
     b->runs = (int)record->declared;

@@ -57,10 +57,10 @@ int plain_cycle_check(const plain_book *b, const uint8_t *list, size_t len);
 /* The arcs from place x to place y: the sum of all enum deck_arcs that hold there. */
 int plain_arc(const plain_book *b, size_t x, size_t y);
 
-/* The gate: the book with the kept list as its history, and the withdrawn runs. */
+/* The gate: the book with the kept list as its history, the withdrawn runs, and the runs taken back. */
 typedef struct {
     plain_book book;
-    int withdrawn[DECK_RUNS];
+    int withdrawn[DECK_RUNS], taken_back[DECK_RUNS];
 } plain_gate;
 
 void plain_open(const plain_book *b, plain_gate *g);
@@ -70,6 +70,7 @@ int plain_step(plain_gate *g, int r);
 
 /* 0, or minus the number of the refusal. */
 int plain_withdraw(plain_gate *g, int r);
+int plain_take_back(plain_gate *g, int r);
 
 /* Whether a gate's record is sound: its tables are in range and agree with one another. The calls refuse any other by 26. */
 int plain_sound(const deck_gate *record);

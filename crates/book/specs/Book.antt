@@ -1,6 +1,7 @@
 -- What a `Book` means, which books are valid, group by group, and what the reader promises of the one that it hands back.
 use Prim.Native.Nat.{ℕ, zero, suc, _+_, _*_, _/_, _%_, _≤_, _<_}
 use mathlib.Core.Path.{_≡_}
+use mathlib.Core.Bool.{Bool}
 use mathlib.Core.List.{List, [], _∷_, map}
 use lib.ListN.{length, getD, take, drop, replicate}
 use lib.Dec.{eqb}
@@ -43,6 +44,10 @@ set-counts b d t k = book-of-tables (b .pairs) (b .cuts) (b .steps) (b .lengths)
 abbrev pub flagged : ℕ → List ℕ → List ℕ
 flagged i [] = []
 flagged i (x ∷ xs) = pick (eqb x 0) (flagged (suc i) xs) (i ∷ flagged (suc i) xs)
+
+-- whether the flag of r is 0
+abbrev pub unflagged : List ℕ → ℕ → Bool
+unflagged flags r = eqb (getD flags r 0) 0
 
 -- the sizes of the tables of pairs and of cuts
 abbrev pub pairs-size : ℕ

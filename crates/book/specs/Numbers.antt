@@ -1,10 +1,10 @@
--- The number of each cause of refusal (document 01, "When something is turned away"; document 02, change 1), and an answer in numbers.
+-- The number of each cause of refusal (document 01, "When something is turned away"; document 02, changes 1 and 7), and an answer in numbers.
 use Prim.Native.Nat.{ℕ}
 use mathlib.Core.Path.{_≡_}
 use lib.ListN.{length}
 use Rattle.book.specs.Format.{Outcome, refused, accepted}
 use Rattle.book.specs.declared.Cause.{Cause}
-use Rattle.book.specs.declared.Cause.the-variants.{BookTooLong, NoCommand, EndsEarly, OutOfOrder, WrongKind, NotRising, WrongRun, TooManyRuns, RunTooLong, TooManySteps, WrongCut, NoStepLeft, BytesAfterEnd, JudgeBufferShort, WriterBufferShort, NotDeclared, Withdrawn, AllKept, Tangled, NoCall, AnswersShort, Damaged}
+use Rattle.book.specs.declared.Cause.the-variants.{BookTooLong, NoCommand, EndsEarly, OutOfOrder, WrongKind, NotRising, WrongRun, TooManyRuns, RunTooLong, TooManySteps, WrongCut, NoStepLeft, BytesAfterEnd, JudgeBufferShort, WriterBufferShort, NotDeclared, Withdrawn, AllKept, Tangled, NoCall, AnswersShort, Damaged, TakenBack}
 
 abbrev pub number : Cause → ℕ
 number BookTooLong = 1
@@ -29,6 +29,7 @@ number Tangled = 23
 number NoCall = 24
 number AnswersShort = 25
 number Damaged = 26
+number TakenBack = 32
 
 -- each cause has a number of its own
 abbrev pub OwnNumbers : Type 0

@@ -1,13 +1,15 @@
-// The deck book: its type and limits, its steps and their touches, the causes of refusal and their numbers, and the book with another history.
+// The deck book: its type and limits, its steps and their touches, the causes of refusal and their numbers, and the book with another history, or with some
+// runs' steps left out of its own.
 ghost use mathlib.Core.Path.{_≡_};
 ghost use Prim.Native.Nat.{_+_, _*_, _<_};
+ghost use Rattle.theory.specs.History.{project};
 ghost use Rattle.theory.specs.Deck.{home};
 ghost use Rattle.book.specs.Numbers.{number};
 ghost use Rattle.book.specs.Format.{kind-limit, position-limit, run-limit, run-step-limit, step-limit, length-limit, kinds-low, with-history, Allowed};
-ghost use Rattle.book.specs.Book.{touch-limit, code-limit, touch-coded, step-coded, as-touch, as-step, touch-code, step-code, contents-of, empty-book, Valid, Represents};
+ghost use Rattle.book.specs.Book.{touch-limit, code-limit, touch-coded, step-coded, as-touch, as-step, touch-code, step-code, unflagged, contents-of, empty-book, Valid, Represents};
 
-// Why something is turned away: one for each row of document 01's table and each check of document 02, change 1, two of the replay's own, and one for a
-// gate's record that is not sound.
+// Why something is turned away: one for each row of document 01's table and each check of document 02, changes 1 and 7, two of the replay's own, and one
+// for a gate's record that is not sound.
 pub enum Cause {
     // A book over the length limit.
     BookTooLong,
@@ -53,6 +55,8 @@ pub enum Cause {
     AnswersShort,
     // Gate: a table of the record out of range, or not in agreement with another.
     Damaged,
+    // Gate: run taken back already.
+    TakenBack,
 }
 
 // The number of a cause.
@@ -82,6 +86,7 @@ pub fn number_of(cause: Cause) -> u8
         Cause::NoCall => 24,
         Cause::AnswersShort => 25,
         Cause::Damaged => 26,
+        Cause::TakenBack => 32,
     }
 }
 
@@ -281,6 +286,32 @@ pub fn with_history(mut b: Book, list: &[u8]) -> Book
         history[n] = run;
         counts[r] += 1;
         n += 1;
+    }
+    b.counts = counts;
+    b.history = history;
+    b.done = n;
+    b
+}
+
+// The book whose history lacks the steps of the runs whose flag in `out` is not 0; the others stay in order.
+pub fn without_runs(mut b: Book, out: [u8; Book::RUNS]) -> Book
+    requires { ⌜ Valid b ⌝ }
+    ensures { λ r. ⌜ Represents (with-history (contents-of b) (project (unflagged out) (contents-of b .history))) r ⌝ }
+{
+    let done = b.done;
+    let mut counts = [0u8; Book::RUNS];
+    let mut history = [0u8; Book::STEPS];
+    let mut n: usize = 0;
+    let mut i: usize = 0;
+    while i < done {
+        let run = b.history[i];
+        let r = wide(run);
+        if out[r] == 0 {
+            history[n] = run;
+            counts[r] += 1;
+            n += 1;
+        }
+        i += 1;
     }
     b.counts = counts;
     b.history = history;

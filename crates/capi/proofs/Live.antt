@@ -1,5 +1,6 @@
--- A call on a gate that a C program holds: the walk that `deck_step` and `deck_withdraw` share, over the call and the name of its function on the lent
--- record. The borrow goes on to that function for good, and its answer to `of_call`. All that the walk knows of the two is their contracts.
+-- A call on a gate that a C program holds: the walk that `deck_step`, `deck_withdraw` and `deck_take_back` share, over the call and the name of its
+-- function on the lent record. The borrow goes on to that function for good, and its answer to `of_call`. All that the walk knows of the two is their
+-- contracts.
 use mathlib.Core.Path.{_≡_, refl}
 use Prim.Native.Nat.{ℕ, _<_, _^_}
 use mathlib.Core.List.{[], _∷_, List}

@@ -14,7 +14,7 @@ ghost use Rattle.theory.specs.Relative.{RelativelySerialOrder};
 ghost use Rattle.theory.specs.Graph.{Cycle};
 ghost use Rattle.book.specs.Numbers.{refused-with, value-of};
 ghost use Rattle.book.specs.Meaning.{conflict-of, unit-of, SerialHistory, RelativelyAtomicHistory, RelativelySerialHistory, ConflictSerializableHistory};
-ghost use Rattle.gate.specs.Plain.{step as step-call, withdraw as withdraw-call};
+ghost use Rattle.gate.specs.Plain.{step as step-call, withdraw as withdraw-call, take-back as take-back-call};
 ghost use Rattle.classes.specs.Tested.{tested-numbers};
 ghost use Rattle.names.specs.Names.{names-of};
 ghost use Rattle.evidence.specs.Named.{named-numbers};
@@ -113,6 +113,7 @@ fn of_call(reply: Reply) -> Answered
     match reply {
         Reply::Place(place) => value_of(place),
         Reply::Withdrawn => value_of(0),
+        Reply::TakenBack => value_of(0),
         Reply::Refused(cause) => refused_with(cause, 0),
     }
 }
@@ -265,6 +266,14 @@ pub extern "C" fn deck_withdraw(g: &mut Gate, run: u8) -> Answered
     ensures { λ r. ⌜ GateCall (withdraw-call run) (now (g .entry)) (now (g .exit)) r ⌝ }
 {
     let reply = gate::withdraw(g, run);
+    of_call(reply)
+}
+
+#[no_mangle]
+pub extern "C" fn deck_take_back(g: &mut Gate, run: u8) -> Answered
+    ensures { λ r. ⌜ GateCall (take-back-call run) (now (g .entry)) (now (g .exit)) r ⌝ }
+{
+    let reply = gate::take_back(g, run);
     of_call(reply)
 }
 

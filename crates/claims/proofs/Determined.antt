@@ -37,13 +37,13 @@ use Rattle.evidence.specs.Named.{named-numbers, OutcomeNamed}
 use Rattle.evidence.specs.declared.Named.{Named}
 use Rattle.writer.specs.Written.{written-numbers}
 use Rattle.writer.specs.declared.Written.{Written}
-use Rattle.gate.specs.Plain.{Call, Answer, place, withdrawn, refused as refused-by}
+use Rattle.gate.specs.Plain.{Call, Answer, place, withdrawn, taken-back, refused as refused-by}
 use Rattle.gate.specs.Gate.{answer-of, reply-numbers, opening-numbers, book-of, state-of, OpenedAs, CalledAs, on-sound, on-damaged}
 use Rattle.gate.specs.Replay.{played-numbers, played-by, Replays}
 use Rattle.gate.specs.declared.Gate.{Gate}
 use Rattle.gate.specs.declared.Opened.{Opened}
 use Rattle.gate.specs.declared.Reply.{Reply}
-use Rattle.gate.specs.declared.Reply.the-variants.{Place, Withdrawn, Refused as CallRefused}
+use Rattle.gate.specs.declared.Reply.the-variants.{Place, Withdrawn, TakenBack, Refused as CallRefused}
 use Rattle.gate.specs.declared.Played.{Played}
 use Rattle.gate.specs.declared.Played.the-variants.{Done, Refused as NotReplayed}
 use Rattle.gate.specs.declared.Replayed.{Replayed}
@@ -161,17 +161,19 @@ one-name : (N : Contents → ArcNames) (o : Outcome) → AtMostOne (OutcomeNamed
 one-name N (refused cause at) r r′ w w′ = w .refusal ∙ sym (w′ .refusal)
 one-name N (accepted c) r r′ w w′ = w ∙ sym w′
 
--- ---- step and withdraw
+-- ---- step, withdraw and take back
 
 -- the reply of an answer
-abbrev reply-of : Answer → Reply
+abbrev pub reply-of : Answer → Reply
 reply-of (place p) = Place p
 reply-of withdrawn = Withdrawn
+reply-of taken-back = TakenBack
 reply-of (refused-by n) = CallRefused (cause-of n)
 
-reply-back : (a : Reply) → reply-of (answer-of a) ≡ a
+pub reply-back : (a : Reply) → reply-of (answer-of a) ≡ a
 reply-back (Place p) = refl
 reply-back Withdrawn = refl
+reply-back TakenBack = refl
 reply-back (CallRefused cause) = ap CallRefused (cause-back cause)
 
 one-call : (g : Gate) (x : Call) → AtMostOnePair (CalledAs g x)

@@ -40,10 +40,10 @@ books-accepted h w =
 -- ---- the rows
 
 -- of the runs of row 2, uncut
-abbrev Serializable : List ℕ → Type 0
+abbrev pub Serializable : List ℕ → Type 0
 Serializable h = RelativelySerializable (conflict-of (book-2 [])) (unit-of (book-2 [])) h
 
-row-2-serializable : Serializable (0 ∷ 0 ∷ 1 ∷ 1 ∷ [])
+pub row-2-serializable : Serializable (0 ∷ 0 ∷ 1 ∷ 1 ∷ [])
 unfolding rows
 row-2-serializable = twelve-rows .each .1 .0 .verdict-is .0
 
@@ -51,36 +51,36 @@ row-3-not-serial : ¬ RelativelySerial (conflict-of (book-2 [])) (unit-of (book-
 unfolding rows
 row-3-not-serial = twelve-rows .each .1 .1 .0 .relserial-is
 
-row-4-not-serializable : ¬ Serializable (0 ∷ 1 ∷ 1 ∷ 0 ∷ [])
+pub row-4-not-serializable : ¬ Serializable (0 ∷ 1 ∷ 1 ∷ 0 ∷ [])
 unfolding rows
 row-4-not-serializable = twelve-rows .each .1 .1 .1 .0 .verdict-is
 
-row-5-serializable : Serializable (0 ∷ 1 ∷ 1 ∷ [])
+pub row-5-serializable : Serializable (0 ∷ 1 ∷ 1 ∷ [])
 unfolding rows
 row-5-serializable = twelve-rows .each .1 .1 .1 .1 .0 .verdict-is .0
 
 -- the starts of row 5
-start-1-serializable : Serializable (0 ∷ [])
+pub start-1-serializable : Serializable (0 ∷ [])
 start-1-serializable = prefix-serializable (conflict-of (book-2 [])) (unit-of (book-2 [])) (0 ∷ []) (1 ∷ 1 ∷ []) row-5-serializable
 
-start-2-serializable : Serializable (0 ∷ 1 ∷ [])
+pub start-2-serializable : Serializable (0 ∷ 1 ∷ [])
 start-2-serializable = prefix-serializable (conflict-of (book-2 [])) (unit-of (book-2 [])) (0 ∷ 1 ∷ []) (1 ∷ []) row-5-serializable
 
 -- ---- the gates
 
 -- the plain gate's states after step 0, step 1, step 1
-abbrev after-1 : State
+abbrev pub after-1 : State
 after-1 = keep newly-opened 0
 
-abbrev after-2 : State
+abbrev pub after-2 : State
 after-2 = keep after-1 1
 
-abbrev after-3 : State
+abbrev pub after-3 : State
 after-3 = keep after-2 1
 
 module _ (h : List ℕ) where
   -- the plain gate keeps an eligible step where the kept list with it is relatively serializable
-  kept-step : (m : State) (r : ℕ) → Eligible (book-2 h) m r → Serializable (m .kept ++ r ∷ []) → PlainCall (book-2 h) m (step r) (place (length (m .kept))) (keep m r)
+  pub kept-step : (m : State) (r : ℕ) → Eligible (book-2 h) m r → Serializable (m .kept ++ r ∷ []) → PlainCall (book-2 h) m (step r) (place (length (m .kept))) (keep m r)
   kept-step m r e k = step-kept e (λ t. t k)
 
   eligible-0 : Eligible (book-2 h) newly-opened 0

@@ -2,7 +2,7 @@
 -- Refusals: demand 1. Demands: demands 2 and 3, and the twelve rows. Determined: two results that meet a call's contract are equal. Lazy: document 01's
 -- lazy programs do not meet the demands. Classes: answers that meet the calls' contracts have the classes nested. OnePass: each row is final
 -- once its step is read. OldBooks: a contract by a book's conflict is one by the earlier conflict, where the two are the same. ArcsByName: the names that
--- are given hold, and a letter is the first of them. Command54: command 54 beside 53.
+-- are given hold, and a letter is the first of them. Command54: command 54 beside 53. TakeBack: what the plain gate's rule for a take-back comes to.
 pub mod Bytes
 pub mod Table
 pub mod EachNumber
@@ -15,3 +15,4 @@ pub mod OnePass
 pub mod OldBooks
 pub mod ArcsByName
 pub mod Command54
+pub mod TakeBack

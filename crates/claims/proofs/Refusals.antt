@@ -32,7 +32,7 @@ use Rattle.names.specs.Names.{names-value}
 use Rattle.names.specs.declared.ArcNames.{ArcNames}
 use Rattle.evidence.specs.Named.{named-numbers, OutcomeNamed, NamedAs}
 use Rattle.evidence.specs.declared.Named.{Named}
-use Rattle.gate.specs.Plain.{Call, step, withdraw, Answer, place, refused as refused-by-number, State, PlainCall, step-refused, step-tangled, step-kept, withdraw-refused, withdraws, Refusal, not-declared, was-withdrawn, all-kept}
+use Rattle.gate.specs.Plain.{Call, step, withdraw, take-back, Answer, place, refused as refused-by-number, State, PlainCall, step-refused, step-tangled, step-kept, withdraw-refused, withdraws, take-back-refused, takes-back, Refusal, not-declared, was-withdrawn, all-kept, RemovalRefusal, undeclared, was-taken-back}
 use Rattle.gate.specs.Gate.{answer-of, reply-numbers, book-of, state-of, Sound, opening-answer, opening-numbers, opened-book, OpenedAs, CalledAs, on-sound, on-damaged}
 use Rattle.gate.specs.Replay.{is-call, calls-of, bad-at, played-numbers, played-by, Replays}
 use Rattle.gate.specs.declared.Gate.{Gate}
@@ -41,13 +41,13 @@ use Rattle.gate.specs.declared.Replayed.{Replayed}
 use Rattle.gate.specs.declared.Played.{Played}
 use Rattle.gate.specs.declared.Played.the-variants.{Done, Refused as NotPlayed}
 use Rattle.gate.specs.declared.Reply.{Reply}
-use Rattle.gate.specs.declared.Reply.the-variants.{Place, Withdrawn, Refused}
+use Rattle.gate.specs.declared.Reply.the-variants.{Place, Withdrawn, TakenBack, Refused}
 use Rattle.gate.proofs.PlainGate.{single}
 use Rattle.gate.proofs.Unchanged.{refused-unchanged}
 use Rattle.gate.proofs.Replays.{whole-calls}
 use Rattle.report.specs.Text.{Findings, Report, refused-at, accepted-with, text-of}
 use Rattle.report.specs.Reporting.{ReportOn, Reports}
-use Rattle.claims.specs.Table.{BookRow, NoRow, JudgeRow, order-under-128, cycle-under-128, judged-book, WriterRow, written-book, shorter-than-the-book, run-called, GateRow, row-20, row-21, row-22, row-23, row-26, NoCallAt, cut-off, not-53-or-57, behind-53, behind-57, ReplayRow, replayed-book, no-call, answers-short}
+use Rattle.claims.specs.Table.{BookRow, NoRow, JudgeRow, order-under-128, cycle-under-128, judged-book, WriterRow, written-book, shorter-than-the-book, run-called, StepsOrWithdraws, steps, withdraws as withdraws-run, GateRow, row-20, row-21, row-22, row-23, row-26, row-32, NoCallAt, cut-off, none-of-them, behind-53, behind-57, behind-54, ReplayRow, replayed-book, no-call, answers-short}
 use Rattle.claims.specs.Demands.{TurnsAway, BuffersUnchanged, AnswersUnchanged, WithoutRuns, Demand1}
 use Rattle.claims.proofs.Table.{refused-row, row-refused, row-numbered, row-single, accepted-no-row}
 use Rattle.claims.proofs.EachNumber.{each-number}
@@ -195,11 +195,12 @@ module _ (s out out′ : List ℕ) where
           as-book row m p (shorter-than-the-book none l) = absurd (none (number cause) at row)
       go (accepted c) e b = write-accepted c e (leb (length s) (length out)) refl b
 
--- ---- step and withdraw
+-- ---- step, withdraw and take back
 
 refused-numbers : {n : ℕ} (a : Reply) → answer-of a ≡ refused-by-number n → (reply-numbers a .number ≡ n) × (reply-numbers a .place ≡ 0)
 refused-numbers (Place p) e = let z : _≡_ {A = ℕ} 0 1 = cc in absurd (omega arith)
 refused-numbers Withdrawn e = let z : _≡_ {A = ℕ} 0 1 = cc in absurd (omega arith)
+refused-numbers TakenBack e = let z : _≡_ {A = ℕ} 0 1 = cc in absurd (omega arith)
 refused-numbers (Refused cause) e = (cc, refl)
 
 module _ (g : Gate) (y : Sound g) where
@@ -207,32 +208,41 @@ module _ (g : Gate) (y : Sound g) where
   row-rule : (x : Call) {m at : ℕ} → GateRow g x m at → PlainCall (book-of g) (state-of g) x (refused-by-number m) (state-of g) × (at ≡ 0)
   row-rule (step r) (row-20 z d) = (step-refused (not-declared d), refl)
   row-rule (withdraw r) (row-20 z d) = (withdraw-refused (not-declared d), refl)
-  row-rule (step r) (row-21 z d w) = (step-refused (was-withdrawn d w), refl)
-  row-rule (withdraw r) (row-21 z d w) = (withdraw-refused (was-withdrawn d w), refl)
-  row-rule (step r) (row-22 z d w l) = (step-refused (all-kept d w l), refl)
-  row-rule (withdraw r) (row-22 z d w l) = (withdraw-refused (all-kept d w l), refl)
+  row-rule (take-back r) (row-20 z d) = (take-back-refused (undeclared d), refl)
+  row-rule (step r) (row-21 z steps d w) = (step-refused (was-withdrawn d w), refl)
+  row-rule (withdraw r) (row-21 z withdraws-run d w) = (withdraw-refused (was-withdrawn d w), refl)
+  row-rule (step r) (row-22 z steps d w l) = (step-refused (all-kept d w l), refl)
+  row-rule (withdraw r) (row-22 z withdraws-run d w l) = (withdraw-refused (all-kept d w l), refl)
   row-rule (step r) (row-23 z e t) = (step-tangled e t, refl)
+  row-rule (take-back r) (row-32 z d w) = (take-back-refused (was-taken-back d w), refl)
   row-rule x (row-26 n) = absurd (n y)
 
   -- and back
-  refusal-row : (x : Call) {cause : Cause} → Refusal (book-of g) (state-of g) (run-called x) cause → GateRow g x (number cause) 0
-  refusal-row x (not-declared d) = row-20 y d
-  refusal-row x (was-withdrawn d w) = row-21 y d w
-  refusal-row x (all-kept d w l) = row-22 y d w l
+  refusal-row : (x : Call) (r : ℕ) → run-called x ≡ r → StepsOrWithdraws r x → {cause : Cause} → Refusal (book-of g) (state-of g) r cause → GateRow g x (number cause) 0
+  refusal-row x r e k (not-declared d) = row-20 {x = x} y (rw e d)
+  refusal-row x r e k (was-withdrawn d w) = row-21 y k d w
+  refusal-row x r e k (all-kept d w l) = row-22 y k d w l
+
+  removal-row : (r : ℕ) {cause : Cause} → RemovalRefusal (book-of g) (state-of g) r cause → GateRow g (take-back r) (number cause) 0
+  removal-row r (undeclared d) = row-20 y d
+  removal-row r (was-taken-back d w) = row-32 y d w
 
   rule-row : {x : Call} {a : Answer} {h : State} (n : ℕ) → PlainCall (book-of g) (state-of g) x a h → a ≡ refused-by-number n → GateRow g x n 0
-  rule-row {x} n (step-refused {cause = cause} p) e = let q : number cause ≡ n = cc in subst (λ (k : ℕ). GateRow g x k 0) q (refusal-row x p)
+  rule-row {x} n (step-refused {r = r} {cause = cause} p) e = let q : number cause ≡ n = cc in subst (λ (k : ℕ). GateRow g x k 0) q (refusal-row x r refl steps p)
   rule-row {x} n (step-tangled p t) e = let q : 23 ≡ n = cc in subst (λ (k : ℕ). GateRow g x k 0) q (row-23 y p t)
   rule-row n (step-kept p t) e = let z : _≡_ {A = ℕ} 0 1 = cc in absurd (omega arith)
-  rule-row {x} n (withdraw-refused {cause = cause} p) e = let q : number cause ≡ n = cc in subst (λ (k : ℕ). GateRow g x k 0) q (refusal-row x p)
+  rule-row {x} n (withdraw-refused {r = r} {cause = cause} p) e = let q : number cause ≡ n = cc in subst (λ (k : ℕ). GateRow g x k 0) q (refusal-row x r refl withdraws-run p)
   rule-row n (withdraws p) e = let z : _≡_ {A = ℕ} 0 1 = cc in absurd (omega arith)
+  rule-row {x} n (take-back-refused {r = r} {cause = cause} p) e = let q : number cause ≡ n = cc in subst (λ (k : ℕ). GateRow g x k 0) q (removal-row r p)
+  rule-row n (takes-back p) e = let z : _≡_ {A = ℕ} 0 1 = cc in absurd (omega arith)
 
 -- of a record that is not sound, 26 alone applies
 only-26 : (g : Gate) → ¬ Sound g → {x : Call} {m at : ℕ} → GateRow g x m at → (26 ≡ m) × (0 ≡ at)
 only-26 g n (row-20 y d) = absurd (n y)
-only-26 g n (row-21 y d w) = absurd (n y)
-only-26 g n (row-22 y d w l) = absurd (n y)
+only-26 g n (row-21 y k d w) = absurd (n y)
+only-26 g n (row-22 y k d w l) = absurd (n y)
 only-26 g n (row-23 y p t) = absurd (n y)
+only-26 g n (row-32 y d w) = absurd (n y)
 only-26 g n (row-26 z) = (refl, refl)
 
 module _ (g h : Gate) (x : Call) where
@@ -252,16 +262,19 @@ module _ (g h : Gate) (x : Call) where
       go : (b : Reply) → reply-numbers b .number ≢ 0 → PlainCall (book-of g) (state-of g) x (answer-of b) (state-of h) → GateRow g x (reply-numbers b .number) (reply-numbers b .place)
       go (Place p) z c = absurd (z refl)
       go Withdrawn z c = absurd (z refl)
+      go TakenBack z c = absurd (z refl)
       go (Refused cause) z c = rule-row g y (number cause) c refl
 
       none : (b : Reply) → reply-numbers b .number ≢ 0 → reply-numbers b .value ≡ 0
       none (Place p) z = absurd (z refl)
       none Withdrawn z = refl
+      none TakenBack z = refl
       none (Refused cause) z = refl
 
       same : (b : Reply) → reply-numbers b .number ≢ 0 → CalledAs g x b h → h ≡ g
       same (Place p) z c = absurd (z refl)
       same Withdrawn z c = absurd (z refl)
+      same TakenBack z c = absurd (z refl)
       same (Refused cause) z c = refused-unchanged g h x cause c
 
 -- ---- the replay
@@ -279,9 +292,10 @@ bad-low at (o ∷ r ∷ bs) = go (is-call o) (bad-low (at + 2) bs)
 -- a bad call by the table is the one that the function finds; the list stands at the offset k
 no-call-bad : {at : ℕ} {bs : List ℕ} → NoCallAt bs at → (k : ℕ) → (bad-at k bs ≡ k + at) × (at < length bs)
 no-call-bad cut-off k = (omega arith, omega arith)
-no-call-bad (not-53-or-57 {o} {r} {bs} n m) k = let e : bad-at k (o ∷ r ∷ bs) ≡ k = rw (ne-eqb o 0x53 n, ne-eqb o 0x57 m) in (omega arith, omega arith)
+no-call-bad (none-of-them {o} {r} {bs} n m p) k = let e : bad-at k (o ∷ r ∷ bs) ≡ k = rw (ne-eqb o 0x53 n, ne-eqb o 0x57 m, ne-eqb o 0x54 p) in (omega arith, omega arith)
 no-call-bad (behind-53 b) k = let h = no-call-bad b (k + 2) in (omega (arith, h .0), omega (arith, h .1))
 no-call-bad (behind-57 b) k = let h = no-call-bad b (k + 2) in (omega (arith, h .0), omega (arith, h .1))
+no-call-bad (behind-54 b) k = let h = no-call-bad b (k + 2) in (omega (arith, h .0), omega (arith, h .1))
 
 -- and back: the function's offset, of a list at the offset k, is the table's
 abbrev Found : ℕ → List ℕ → Type 0
@@ -290,16 +304,17 @@ Found k bs = (at : ℕ) × ((bad-at k bs ≡ k + at) × NoCallAt bs at)
 bad-found : (k : ℕ) (bs : List ℕ) → bad-at k bs < k + length bs → Found k bs
 bad-found k [] h = absurd (omega arith)
 bad-found k (o ∷ []) h = (0, (omega arith, cut-off))
-bad-found k (o ∷ r ∷ bs) h = go (ℕ-discrete o 0x53) (ℕ-discrete o 0x57) (bad-found (k + 2) bs)
+bad-found k (o ∷ r ∷ bs) h = go (ℕ-discrete o 0x53) (ℕ-discrete o 0x57) (ℕ-discrete o 0x54) (bad-found (k + 2) bs)
   where
     further : ((at : ℕ) → NoCallAt bs at → NoCallAt (o ∷ r ∷ bs) (suc (suc at))) → bad-at k (o ∷ r ∷ bs) ≡ bad-at (k + 2) bs
         → (bad-at (k + 2) bs < k + 2 + length bs → Found (k + 2) bs) → Found k (o ∷ r ∷ bs)
     further g e f = let x = f (omega arith) in (suc (suc (x .0)), (omega (arith, x .1 .0), g (x .0) (x .1 .1)))
 
-    go : Dec (o ≡ 0x53) → Dec (o ≡ 0x57) → (bad-at (k + 2) bs < k + 2 + length bs → Found (k + 2) bs) → Found k (o ∷ r ∷ bs)
-    go (yes e) d f = further (λ at b. rw e (behind-53 b)) (rw (eq-eqb o 0x53 e)) f
-    go (no n) (yes e) f = further (λ at b. rw e (behind-57 b)) (rw (ne-eqb o 0x53 n, eq-eqb o 0x57 e)) f
-    go (no n) (no m) f = let e : bad-at k (o ∷ r ∷ bs) ≡ k = rw (ne-eqb o 0x53 n, ne-eqb o 0x57 m) in (0, (omega arith, not-53-or-57 n m))
+    go : Dec (o ≡ 0x53) → Dec (o ≡ 0x57) → Dec (o ≡ 0x54) → (bad-at (k + 2) bs < k + 2 + length bs → Found (k + 2) bs) → Found k (o ∷ r ∷ bs)
+    go (yes e) d c f = further (λ at b. rw e (behind-53 b)) (rw (eq-eqb o 0x53 e)) f
+    go (no n) (yes e) c f = further (λ at b. rw e (behind-57 b)) (rw (ne-eqb o 0x53 n, eq-eqb o 0x57 e)) f
+    go (no n) (no m) (yes e) f = further (λ at b. rw e (behind-54 b)) (rw (ne-eqb o 0x53 n, ne-eqb o 0x57 m, eq-eqb o 0x54 e)) f
+    go (no n) (no m) (no p) f = let e : bad-at k (o ∷ r ∷ bs) ≡ k = rw (ne-eqb o 0x53 n, ne-eqb o 0x57 m, ne-eqb o 0x54 p) in (0, (omega arith, none-of-them n m p))
 
 bad-no-call : (bs : List ℕ) → bad-at 0 bs < length bs → NoCallAt bs (bad-at 0 bs)
 bad-no-call bs h = let x = bad-found 0 bs (omega arith) in let e : bad-at 0 bs ≡ x .0 = omega (arith, x .1 .0) in rw e (x .1 .1)

@@ -108,7 +108,7 @@ pub record Demand1 : Type 1 where
   pub deck-write : (s out out′ : List ℕ) (r : Answered) → WriteCall s out out′ r → TurnsAway (WriterRow s out) (answered-numbers r) (out′ ≡ out)
   pub open-gate : (s : List ℕ) (o : Opened) → OpenedAs (read s) o → TurnsAway (BookRow s) (opening-numbers (o .answer)) (WithoutRuns (o .gate))
   pub deck-open : (s : List ℕ) (r : OpenedGate) → OpenCall s r → TurnsAway (BookRow s) (opened-numbers r) (WithoutRuns (r .gate))
-  -- step and withdraw, on any record
+  -- step, withdraw and take back, on any record
   pub call-gate : (g h : Gate) (x : Call) (a : Reply) → CalledAs g x a h → TurnsAway (GateRow g x) (reply-numbers a) (h ≡ g)
   pub deck-call : (g h : Gate) (x : Call) (r : Answered) → GateCall x g h r → TurnsAway (GateRow g x) (answered-numbers r) (h ≡ g)
   pub replay-calls : (s calls answers answers′ : List ℕ) (r : Replayed) → Replays s calls answers answers′ r

@@ -83,7 +83,7 @@ pub record Determined : Type 1 where
   pub writing : (s before : List ℕ) → AtMostOnePair (Wrote s before)
   -- the answer and the record
   pub opening : (o : Outcome) → AtMostOne (OpenedAs o)
-  -- step and withdraw, on any record: the answer and the record at exit
+  -- step, withdraw and take back, on any record: the answer and the record at exit
   pub calling : (g : Gate) (x : Call) → AtMostOnePair (CalledAs g x)
   -- the buffer, the answer and the record
   pub replaying : (s calls before : List ℕ) → AtMostOnePair (Replays s calls before)

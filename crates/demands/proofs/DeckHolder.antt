@@ -1,6 +1,6 @@
--- A call for C for a caller that holds the record by value: the walk that `after_deck_step` and `after_deck_withdraw` share, over the call and the name of
--- its function for C. A local gate is lent to that function for a lifetime that is made for the call, and read once the lifetime has ended (as in gate's
--- Holder). All that the walk knows of that function is its contract.
+-- A call for C for a caller that holds the record by value: the walk that `after_deck_step`, `after_deck_withdraw` and `after_deck_take_back` share,
+-- over the call and the name of its function for C. A local gate is lent to that function for a lifetime that is made for the call, and read once the
+-- lifetime has ended (as in gate's Holder). All that the walk knows of that function is its contract.
 use mathlib.Core.Path.{refl, ap}
 use Prim.Native.Nat.{ℕ, _<_, _^_}
 use mathlib.Core.List.{[], _∷_, List}

@@ -15,8 +15,8 @@ use Rattle.book.specs.Numbers.{value-of}
 use Rattle.classes.specs.declared.Tested.the-variants.{Yes}
 use Rattle.judge.specs.declared.Judgement.{Judgement}
 use Rattle.judge.specs.declared.Verdict.the-variants.{Passed}
-use Rattle.gate.specs.Plain.{step, withdraw}
-use Rattle.gate.specs.Gate.{state-of}
+use Rattle.gate.specs.Plain.{step, withdraw, take-back, In}
+use Rattle.gate.specs.Gate.{book-of, state-of, Sound}
 use Rattle.gate.specs.Demand.{Demand3}
 use Rattle.gate.specs.Replay.{calls-of, answers-in}
 use Rattle.gate.specs.declared.Gate.{Gate}
@@ -26,6 +26,7 @@ use Rattle.names.specs.Names.{names-value}
 use Rattle.names.specs.declared.ArcNames.{ArcNames}
 use Rattle.report.specs.Text.{Findings, tangled, refused-at, accepted-with, text-of}
 use Rattle.report.specs.Reporting.{Reports}
+use Rattle.capi.specs.Numbers.{answered}
 use Rattle.capi.specs.declared.Answered.{Answered}
 use Rattle.capi.specs.declared.Judged.{Judged}
 use Rattle.graph.specs.Dependence.{Blank, InRange}
@@ -34,7 +35,9 @@ use Rattle.claims.specs.Table.{BookRow, NoRow, JudgeRow, WriterRow, GateRow, Re
 use Rattle.claims.specs.Demands.{TurnsAway, BuffersUnchanged, WithoutRuns, answered-numbers, judged-numbers, opened-numbers, Demand2}
 use Rattle.claims.specs.Classes.{OtherCuts, JudgeAnswered, ClassesAnswered, DeckJudgeAnswered, DeckClassesAnswered, SaysYes, SaysPassed, TextSaysPassed, NestedCalls, NestedDeckCalls, NestedFindings}
 use Rattle.claims.specs.ArcsByName.{AllThatHold, ArcsUnder}
+use Rattle.claims.specs.TakeBack.{WithoutRun}
 use Rattle.demands.specs.declared.BookAnswers.{BookAnswers}
+use Rattle.demands.specs.declared.DeckCalled.{DeckCalled}
 use Rattle.demands.specs.declared.ClassAnswers.{ClassAnswers}
 use Rattle.demands.specs.declared.DeckClassAnswers.{DeckClassAnswers}
 use Rattle.demands.specs.declared.GateAnswers.{GateAnswers}
@@ -69,10 +72,11 @@ pub record TextRefusals (s text text′ : List ℕ) (n : ℕ) : Type 0 where
   pub refused-text : (m place : ℕ) → BookRow s m place → Put (text-of (refused-at m place)) text text′ n
   pub accepted-text : NoRow s → (w : Findings) × Put (text-of (accepted-with w)) text text′ n
 
--- of step and withdraw for C on any record
+-- of step, withdraw and take back for C on any record
 pub record GateRefusals (g : Gate) (run : ℕ) (r : GateAnswers) : Type 0 where
   pub stepped : TurnsAway (GateRow g (step run)) (answered-numbers (r .stepped .answer)) (r .stepped .gate ≡ g)
   pub withdrawn : TurnsAway (GateRow g (withdraw run)) (answered-numbers (r .withdrawn .answer)) (r .withdrawn .gate ≡ g)
+  pub taken-back : TurnsAway (GateRow g (take-back run)) (answered-numbers (r .«taken_back» .answer)) (r .«taken_back» .gate ≡ g)
 
 -- demand 2 of a judgement, where the book is accepted and the buffers are as long as the judge asks
 pub record Demand2Of (s order order′ cycle cycle′ : List ℕ) (r : Judgement) : Type 0 where
@@ -136,3 +140,10 @@ pub record TextLettered (s before after : List ℕ) (n : ℕ) : Type 0 where
   pub promised : Reports (read s) before after n
   pub lettered : (c : Contents) → read s ≡ accepted c → (w : Findings) (cycle : List ℕ) (names : List ArcNames) → promised .report ≡ accepted-with w → w .verdict ≡ tangled cycle names
       → ArcsUnder c cycle (take n after)
+
+-- ---- document 02, change 7: a run taken back
+
+-- refused as the table says; else, of a sound record g, a declared run that was not taken back leaves the kept list
+pub record TakenBackAs (g : Gate) (run : ℕ) (r : DeckCalled) : Type 0 where
+  pub refusals : TurnsAway (GateRow g (take-back run)) (answered-numbers (r .answer)) (r .gate ≡ g)
+  pub removed : Sound g → run < length (book-of g .runs) → ¬ In run (state-of g .taken-back) → (r .answer ≡ answered (value-of 0)) × WithoutRun run g (r .gate)

@@ -1,8 +1,8 @@
 // The demands as contracts: `demand_1`, `demand_2` and `demand_3` make the public calls and ensure the demand of what they return; `nested_classes`,
 // `nested_deck_classes` and `nested_text` ask for the classes of a book and ensure that they are nested; `named_arcs` asks for the arcs from one place to
 // another and ensures that they are all that hold, `lettered_text` makes the text and ensures that each letter under a cycle is the first that holds;
-// `feed_step` has one more step of a history read, and ensures what the one pass over it promises. `claims` states all this, and proves it of whatever
-// meets the calls' contracts.
+// `feed_step` has one more step of a history read, and ensures what the one pass over it promises; `run_taken_back` takes a run back, and ensures what that
+// does. `claims` states all this, and proves it of whatever meets the calls' contracts.
 use bits::Table;
 use book::Answer;
 use book::Book;
@@ -16,9 +16,9 @@ use gate::Replayed;
 use judge::Judgement;
 use judge::Verdict;
 ghost use Rattle.book.specs.Book.{Valid, as-step, outcome-by};
-ghost use Rattle.gate.specs.Plain.{step as step-call, withdraw as withdraw-call};
+ghost use Rattle.gate.specs.Plain.{step as step-call, withdraw as withdraw-call, take-back as take-back-call};
 ghost use Rattle.capi.specs.Calls.{GateCall};
-ghost use Rattle.demands.specs.Results.{BookRefusals, JudgeRefusals, WriteRefusals, ReplayRefusals, TextRefusals, GateRefusals, Demand2Of, Demand3Of, NestedAnswers, NestedDeckAnswers, NestedText, ArcsNamed, TextLettered, StepFed};
+ghost use Rattle.demands.specs.Results.{BookRefusals, JudgeRefusals, WriteRefusals, ReplayRefusals, TextRefusals, GateRefusals, Demand2Of, Demand3Of, NestedAnswers, NestedDeckAnswers, NestedText, ArcsNamed, TextLettered, StepFed, TakenBackAs};
 ghost use Rattle.demands.specs.inner.Readings.{OutcomeAnswered};
 
 // What the calls that read a book and change nothing return.
@@ -51,6 +51,7 @@ pub struct DeckCalled {
 pub struct GateAnswers {
     pub stepped: DeckCalled,
     pub withdrawn: DeckCalled,
+    pub taken_back: DeckCalled,
 }
 
 // The calls that read a book and change nothing.
@@ -97,13 +98,27 @@ fn after_deck_withdraw(g: Gate, run: u8) -> DeckCalled
     DeckCalled { answer, gate: h }
 }
 
+// `deck_take_back`, for a caller that holds the record by value.
+fn after_deck_take_back(g: Gate, run: u8) -> DeckCalled
+    ensures { λ called. ⌜ GateCall (take-back-call run) g (called .gate) (called .answer) ⌝ }
+{
+    let mut h = g;
+    let answer = capi::deck_take_back(&mut h, run);
+    DeckCalled { answer, gate: h }
+}
+
 // The calls on a gate's record, each on the same record.
 fn gate_answers(g: Gate, run: u8) -> GateAnswers
     ensures { λ r. ⌜ GateRefusals g run r ⌝ }
 {
     let stepped = after_deck_step(g, run);
     let withdrawn = after_deck_withdraw(g, run);
-    GateAnswers { stepped, withdrawn }
+    let taken_back = after_deck_take_back(g, run);
+    GateAnswers {
+        stepped,
+        withdrawn,
+        taken_back,
+    }
 }
 
 // The calls that are lent a buffer.
@@ -296,4 +311,11 @@ pub fn feed_step(
     ensures { λ answer. ⌜ StepFed (now (pairs .entry)) (now (catalogue .entry)) (now (catalogue .exit)) (now (seconds .entry)) (now (seconds .exit)) (now (dep .entry)) (now (dep .exit)) q r (as-step x) answer ⌝ }
 {
     graph::read_step(pairs, q, r, x, catalogue, seconds, dep)
+}
+
+// Takes a run back.
+pub fn run_taken_back(g: Gate, run: u8) -> DeckCalled
+    ensures { λ r. ⌜ TakenBackAs g run r ⌝ }
+{
+    after_deck_take_back(g, run)
 }

@@ -3,25 +3,24 @@ use Prim.Native.Nat.{ℕ, zero, suc, _+_, _-_, _*_, _/_, _≤_, _<_, zero-le}
 use native.Mathlib.Nat.{not-suc-le-zero, le-of-suc-le-suc}
 use native.Mathlib.Omega.{arith}
 use mathlib.Core.Path.{_≡_, refl, ap, sym, _∙_}
-use mathlib.Core.Bool.{Bool, true, false, _||_}
+use mathlib.Core.Bool.{Bool, true, false}
 use mathlib.Core.List.{List, [], _∷_, _++_, append-assoc}
 use borrow.Author.Tests.{eq-eqb, ne-eqb}
 use mir.Val.{Fits}
 use mir.Syntax.{w8}
 use lib.ListN.{length, getD, drop, length-append, length-drop, drop-of-length-le}
 use lib.Seq.{drop-cons}
-use lib.Dec.{eqb}
 use Rattle.book.specs.Format.{Contents}
 use Rattle.book.specs.Numbers.{number}
 use Rattle.book.specs.declared.Cause.{Cause}
 use Rattle.book.proofs.Books.{history-long, done-few}
-use Rattle.gate.specs.Plain.{Call, step, withdraw, Answer, place, withdrawn, refused, State, PlainCall, step-refused, step-tangled, step-kept, withdraw-refused, withdraws}
+use Rattle.gate.specs.Plain.{Call, step, withdraw, take-back, Answer, place, withdrawn, taken-back, refused, State, PlainCall, step-refused, step-tangled, step-kept, withdraw-refused, withdraws, take-back-refused, takes-back}
 use Rattle.gate.specs.Gate.{answer-of, Sound, CalledAs}
 use Rattle.gate.specs.Replay.{is-call, call-of, calls-of, bad-at, answer-bytes, answers-bytes, answers-in}
 use Rattle.gate.specs.inner.Calls.{Low, BytesOf}
 use Rattle.gate.specs.declared.Gate.{Gate}
 use Rattle.gate.specs.declared.Reply.{Reply}
-use Rattle.gate.specs.declared.Reply.the-variants.{Place, Withdrawn, Refused}
+use Rattle.gate.specs.declared.Reply.the-variants.{Place, Withdrawn, TakenBack, Refused}
 use Rattle.gate.proofs.Records.{sound-call}
 
 pub length-calls : (bs : List ℕ) → length (calls-of bs) ≡ length bs / 2
@@ -67,21 +66,11 @@ module _ (bs : List ℕ) (at : ℕ) (w : Scanned bs at) where
   pub scan-short : at < length bs → length bs - at < 2 → at ≡ bad-at 0 bs
   scan-short h k = sym (ap (bad-at at) (drop-one bs at h k)) ∙ w .rest
 
-  pub scan-bad : 2 ≤ length bs - at → (getD bs at 0 ≡ 0x53 → ⊥) → (getD bs at 0 ≡ 0x57 → ⊥) → at ≡ bad-at 0 bs
-  scan-bad h n m = sym (rw (drop-two bs at h, ne-eqb (getD bs at 0) 0x53 n, ne-eqb (getD bs at 0) 0x57 m)) ∙ w .rest
+  pub scan-bad : 2 ≤ length bs - at → (b : Bool) → b ≡ is-call (getD bs at 0) → b ≡ false → at ≡ bad-at 0 bs
+  scan-bad h b e k = sym (rw (drop-two bs at h, ← e, k)) ∙ w .rest
 
-  scan-next : 2 ≤ length bs - at → is-call (getD bs at 0) ≡ true → Scanned bs (at + 2)
-  scan-next h k = record { inside = omega arith; rest = sym (rw (drop-two bs at h, k)) ∙ w .rest }
-
-  or-true : (b : Bool) → (b || true) ≡ true
-  or-true true = refl
-  or-true false = refl
-
-  pub scan-step : 2 ≤ length bs - at → getD bs at 0 ≡ 0x53 → Scanned bs (at + 2)
-  scan-step h e = scan-next h (rw (eq-eqb (getD bs at 0) 0x53 e))
-
-  pub scan-withdraw : 2 ≤ length bs - at → getD bs at 0 ≡ 0x57 → Scanned bs (at + 2)
-  scan-withdraw h e = scan-next h (rw (eq-eqb (getD bs at 0) 0x57 e) (or-true (eqb (getD bs at 0) 0x53)))
+  pub scan-next : 2 ≤ length bs - at → (b : Bool) → b ≡ is-call (getD bs at 0) → b ≡ true → Scanned bs (at + 2)
+  scan-next h b e k = record { inside = omega arith; rest = sym (rw (drop-two bs at h, ← e, k)) ∙ w .rest }
 
   pub scan-end : length bs ≤ at → at ≡ bad-at 0 bs
   scan-end h = sym (ap (bad-at at) (drop-of-length-le bs {i = at} h)) ∙ w .rest
@@ -92,8 +81,11 @@ module _ (g h : Gate) (o r : ℕ) (a : Reply) where
   pub call-step : o ≡ 0x53 → CalledAs g (step r) a h → CalledAs g (call-of o r) a h
   call-step e w = rw (eq-eqb o 0x53 e) w
 
-  pub call-withdraw : (o ≡ 0x53 → ⊥) → CalledAs g (withdraw r) a h → CalledAs g (call-of o r) a h
-  call-withdraw e w = rw (ne-eqb o 0x53 e) w
+  pub call-withdraw : (o ≡ 0x53 → ⊥) → o ≡ 0x57 → CalledAs g (withdraw r) a h → CalledAs g (call-of o r) a h
+  call-withdraw n e w = rw (ne-eqb o 0x53 n, eq-eqb o 0x57 e) w
+
+  pub call-take-back : (o ≡ 0x53 → ⊥) → (o ≡ 0x57 → ⊥) → CalledAs g (take-back r) a h → CalledAs g (call-of o r) a h
+  call-take-back n m w = rw (ne-eqb o 0x53 n, ne-eqb o 0x57 m) w
 
 -- ---- an answer's bytes
 
@@ -107,6 +99,9 @@ module _ (a : Reply) where
   pub withdrawn-bytes : a ≡ Withdrawn → BytesOf a (record { first = 1; second = 0 })
   withdrawn-bytes e = record { bytes = rw e }
 
+  pub taken-back-bytes : a ≡ TakenBack → BytesOf a (record { first = 3; second = 0 })
+  taken-back-bytes e = record { bytes = rw e }
+
   pub number-bytes : (cause : Cause) (n : ℕ) → a ≡ Refused cause → n ≡ number cause → BytesOf a (record { first = 2; second = n })
   number-bytes cause n e f = record { bytes = rw (e, f) }
 
@@ -117,6 +112,8 @@ place-is p (step-tangled o n) e = let z : _≡_ {A = ℕ} 0 1 = cc in absurd (om
 place-is p (step-kept o s) e = cc
 place-is p (withdraw-refused w) e = let z : _≡_ {A = ℕ} 0 1 = cc in absurd (omega arith)
 place-is p (withdraws o) e = let z : _≡_ {A = ℕ} 0 1 = cc in absurd (omega arith)
+place-is p (take-back-refused w) e = let z : _≡_ {A = ℕ} 0 1 = cc in absurd (omega arith)
+place-is p (takes-back o) e = let z : _≡_ {A = ℕ} 0 1 = cc in absurd (omega arith)
 
 pub answer-low : (g h : Gate) (x : Call) (a : Reply) → Sound g → CalledAs g x a h → Low a
 answer-low g h x a y w = record { place-low = λ p e. omega (arith, place-is p (sound-call y w .plain) (ap answer-of e), history-long (g .book) (y .valid), done-few (g .book) (y .valid), y .valid .runs .few-steps) }
@@ -126,12 +123,14 @@ answer-low g h x a y w = record { place-low = λ p e. omega (arith, place-is p (
 pub answers-snoc : (bs : List Answer) (a : Answer) → answers-bytes (bs ++ a ∷ []) ≡ answers-bytes bs ++ answer-bytes a
 answers-snoc [] (place p) = refl
 answers-snoc [] withdrawn = refl
+answers-snoc [] taken-back = refl
 answers-snoc [] (refused n) = refl
 answers-snoc (b ∷ bs) a = rw (answers-snoc bs a, append-assoc)
 
 answer-length : (a : Answer) → length (answer-bytes a) ≡ 2
 answer-length (place p) = refl
 answer-length withdrawn = refl
+answer-length taken-back = refl
 answer-length (refused n) = refl
 
 pub answers-length : (bs : List Answer) → length (answers-bytes bs) ≡ 2 * length bs
@@ -142,4 +141,5 @@ pub answers-back : (bs : List Answer) → answers-in (answers-bytes bs) ≡ bs
 answers-back [] = refl
 answers-back (place p ∷ bs) = rw (answers-back bs)
 answers-back (withdrawn ∷ bs) = rw (answers-back bs)
+answers-back (taken-back ∷ bs) = rw (answers-back bs)
 answers-back (refused n ∷ bs) = rw (answers-back bs)

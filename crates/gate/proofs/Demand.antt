@@ -1,5 +1,5 @@
 -- Demand 3 holds of whatever answers and state the plain gate's rules give a list of calls.
-use Prim.Native.Nat.{ℕ, _≤_, _<_, zero-le}
+use Prim.Native.Nat.{ℕ, zero, suc, _≤_, _<_, zero-le, suc-le-suc}
 use native.Mathlib.Nat.{not-suc-le-zero, le-of-suc-le-suc}
 use native.Mathlib.Omega.{arith}
 use mathlib.Core.Path.{_≡_, refl, ap}
@@ -7,11 +7,11 @@ use mathlib.Core.Logic.{_↔_, inl, inr}
 use mathlib.Core.List.{List, [], _∷_, _++_}
 use lib.ListN.{length, getD, take}
 use lib.Dec.{eqb}
-use Rattle.theory.specs.History.{count, suc-if}
+use Rattle.theory.specs.History.{count, suc-if, but}
 use Rattle.theory.specs.Relative.{RelativelySerializable}
 use Rattle.theory.proofs.Lists.{count-snoc}
 use Rattle.theory.proofs.Places.{Compared, eq-cases}
-use Rattle.theory.proofs.Within.{tangled-stays}
+use Rattle.theory.proofs.Within.{tangled-stays, project-within, project-serializable}
 use Rattle.theory.proofs.Theorem.{dec-relatively-serializable}
 use Rattle.theory.proofs.DeckLaws.{lawful}
 use Rattle.book.specs.Format.{Bytes, Contents, lengths, accepted, read, with-history, Allowed}
@@ -26,8 +26,8 @@ use Rattle.judge.specs.Judged.{JudgedAs}
 use Rattle.judge.specs.Judge.{OutcomeJudged}
 use Rattle.judge.specs.declared.Verdict.{Verdict}
 use Rattle.judge.specs.declared.Verdict.the-variants.{Refused, Passed, Tangled as JudgeTangled}
-use Rattle.gate.specs.Plain.{Call, step, withdraw, Answer, place, withdrawn, refused, State, newly-opened, In, Eligible, Refusal, not-declared, was-withdrawn, all-kept, PlainCall, step-refused, step-tangled, step-kept, withdraw-refused, withdraws, PlainCalls, none, next}
-use Rattle.gate.specs.Demand.{At, here, there, JudgePasses, Demand3}
+use Rattle.gate.specs.Plain.{Call, step, Answer, place, taken-back, refused, State, newly-opened, In, Eligible, Refusal, not-declared, was-withdrawn, all-kept, PlainCall, step-refused, step-tangled, step-kept, withdraw-refused, withdraws, take-back-refused, takes-back, PlainCalls, none, next}
+use Rattle.gate.specs.Demand.{At, here, there, JudgePasses, Withdraws, by-withdrawal, by-take-back, Demand3}
 use Rattle.gate.proofs.PlainGate.{single, not-eligible, single-calls, in-insert, withdrawn-call}
 
 -- ---- the kept list is one that the runs allow, and it passes
@@ -90,23 +90,30 @@ module _ (c : Contents) where
   passing-call {g} (step-kept {r} e s) w = record { allowed = allowed-more (g .kept) r (w .allowed) (e .left); passed = not-tangled (g .kept ++ r ∷ []) s }
   passing-call (withdraw-refused p) w = w
   passing-call (withdraws e) w = w
+  passing-call (take-back-refused p) w = w
+  passing-call {g} (takes-back {r} e) w = record {
+    allowed = λ x. omega (arith, project-within (but r) (g .kept) x, w .allowed x);
+    passed = project-serializable (conflict-of c) (unit-of c) (but r) (g .kept) (w .passed);
+  }
 
-  -- ---- a tangled step stays tangled
+  -- ---- a tangled step stays tangled, until a run is taken back
 
   -- no relatively serial order of the kept list extended by a step of r agrees with it
   abbrev NoOrder : State → ℕ → Type 0
   NoOrder g r = ¬ RelativelySerializable (conflict-of c) (unit-of c) (g .kept ++ r ∷ [])
 
-  tangled-call : (r : ℕ) {g h : State} {x : Call} {a : Answer} → PlainCall c g x a h → NoOrder g r → NoOrder h r
-  tangled-call r (step-refused p) n = n
-  tangled-call r (step-tangled e m) n = n
-  tangled-call r {g} (step-kept {r = q} e s) n = go (eq-cases q r)
+  tangled-call : (r : ℕ) {g h : State} {x : Call} {a : Answer} → PlainCall c g x a h → ¬ (a ≡ taken-back) → NoOrder g r → NoOrder h r
+  tangled-call r (step-refused p) t n = n
+  tangled-call r (step-tangled e m) t n = n
+  tangled-call r {g} (step-kept {r = q} e s) t n = go (eq-cases q r)
     where
       go : Compared q r → ¬ RelativelySerializable (conflict-of c) (unit-of c) (g .kept ++ q ∷ [] ++ r ∷ [])
       go (inl f) = absurd (rw (f .1) at s n)
       go (inr f) = tangled-stays (conflict-of c) (unit-of c) (g .kept) (q ∷ []) r (rw (f .0)) n
-  tangled-call r (withdraw-refused p) n = n
-  tangled-call r (withdraws e) n = n
+  tangled-call r (withdraw-refused p) t n = n
+  tangled-call r (withdraws e) t n = n
+  tangled-call r (take-back-refused p) t n = n
+  tangled-call r (takes-back e) t n = absurd (t refl)
 
   -- ---- a call of the list, at its moment
 
@@ -140,26 +147,30 @@ module _ (c : Contents) where
   eligible-tangled e (step-tangled f n) = (λ q. n, λ m. refl)
   eligible-tangled {g} e (step-kept f s) = (λ q. absurd (not-place (length (g .kept)) (number Tangled) q), λ m. absurd (s m))
 
-  -- ---- what keeps a run's steps out, once it holds, keeps them out for good
+  -- ---- what keeps a run's steps out, once it holds, keeps them out until an answer ends it
 
-  module _ (r : ℕ) (P : State → Type 0) (keeps : (g h : State) (x : Call) (a : Answer) → PlainCall c g x a h → P g → P h)
+  module _ (r : ℕ) (P : State → Type 0) (Ends : Answer → Type 0) (keeps : (g h : State) (x : Call) (a : Answer) → PlainCall c g x a h → ¬ Ends a → P g → P h)
       (bars : (g h : State) (p : ℕ) → P g → PlainCall c g (step r) (place p) h → ⊥) where
-    never : {g h : State} {xs : List Call} {bs : List Answer} {j p : ℕ} → P g → At xs j (step r) → At bs j (place p) → PlainCalls c g xs bs h → ⊥
-    never w here here (next p ps) = bars _ _ _ w p
-    never w (there x) (there a) (next p ps) = never (keeps _ _ _ _ p w) x a ps
+    never : {g h : State} {xs : List Call} {bs : List Answer} {j p : ℕ} → P g → At xs j (step r) → At bs j (place p)
+        → ((k : ℕ) (a : Answer) → k < j → At bs k a → ¬ Ends a) → PlainCalls c g xs bs h → ⊥
+    never w here here f (next p ps) = bars _ _ _ w p
+    never w (there x) (there a) f (next p ps) =
+        never (keeps _ _ _ _ p (f zero _ (suc-le-suc zero-le) here) w) x a (λ k b l y. f (suc k) b (suc-le-suc l) (there y)) ps
 
     later : {x : Call} {a : Answer} → ((g h : State) → PlainCall c g x a h → P h) → {g h : State} {xs : List Call} {bs : List Answer} {i j p : ℕ} → i < j
-        → At xs i x → At bs i a → At xs j (step r) → At bs j (place p) → PlainCalls c g xs bs h → ⊥
-    later f l here here here here (next p ps) = absurd (not-suc-le-zero l)
-    later f l here here (there y) (there b) (next p ps) = never (f _ _ p) y b ps
-    later f l (there x) (there a) here here (next p ps) = absurd (not-suc-le-zero l)
-    later f l (there x) (there a) (there y) (there b) (next p ps) = later f (le-of-suc-le-suc l) x a y b ps
+        → At xs i x → At bs i a → At xs j (step r) → At bs j (place p) → ((k : ℕ) (a : Answer) → i < k → k < j → At bs k a → ¬ Ends a) → PlainCalls c g xs bs h → ⊥
+    later s l here here here here f (next p ps) = absurd (not-suc-le-zero l)
+    later s l here here (there y) (there b) f (next p ps) = never (s _ _ p) y b (λ k d m z. f (suc k) d (suc-le-suc zero-le) (suc-le-suc m) (there z)) ps
+    later s l (there x) (there a) here here f (next p ps) = absurd (not-suc-le-zero l)
+    later s l (there x) (there a) (there y) (there b) f (next p ps) =
+        later s (le-of-suc-le-suc l) x a y b (λ k d m n z. f (suc k) d (suc-le-suc m) (suc-le-suc n) (there z)) ps
 
   withdrawn-bars : (r : ℕ) {g h : State} {p : ℕ} → In r (g .withdrawn) → PlainCall c g (step r) (place p) h → ⊥
   withdrawn-bars r w (step-kept e s) = e .present w
 
-  withdrawn-after : (r : ℕ) {g h : State} → PlainCall c g (withdraw r) withdrawn h → In r (h .withdrawn)
-  withdrawn-after r {g} (withdraws e) = in-insert r (g .withdrawn)
+  withdrawn-after : (r : ℕ) {g h : State} {x : Call} {a : Answer} → Withdraws r x a → PlainCall c g x a h → In r (h .withdrawn)
+  withdrawn-after r {g} by-withdrawal (withdraws e) = in-insert r (g .withdrawn)
+  withdrawn-after r {g} by-take-back (takes-back e) = in-insert r (g .withdrawn)
 
   tangled-bars : (r : ℕ) {g h : State} {p : ℕ} → NoOrder g r → PlainCall c g (step r) (place p) h → ⊥
   tangled-bars r n (step-kept e s) = s n
@@ -182,13 +193,16 @@ module _ (c : Contents) where
     answers-equal = λ bs h qs. single-calls c ps qs .0;
     kept-equal = λ bs h qs. ap (λ (k : State). k .kept) (single-calls c ps qs .1);
     withdrawn-equal = λ bs h qs. ap (λ (k : State). k .withdrawn) (single-calls c ps qs .1);
+    taken-back-equal = λ bs h qs. ap (λ (k : State). k .taken-back) (single-calls c ps qs .1);
     judge-passes = judge-passes s c bytes e (g .kept) (passing-calls ps (passing-start c));
     tangled-exactly = λ i r m x at o.
         let a = answer-at x ps in
         let t = eligible-tangled o (rule-at x (a .1) ps (at .reached) .1) in
         (λ y. t .0 (one-at (a .1) y), λ n. rw (t .1 n) at (a .1));
-    withdrawn-stays = λ i j r l x a y b.
-        later r (λ g. In r (g .withdrawn)) (λ g h x a p w. withdrawn-call c r p w) (λ g h q w p. withdrawn-bars r w p) (λ g h p. withdrawn-after r p) l x a y (b .1) ps;
-    tangled-stays = λ i j r l x a y b.
-        later r (λ g. NoOrder g r) (λ g h x a p n. tangled-call r p n) (λ g h q n p. tangled-bars r n p) (λ g h p. tangled-after r refl p) l x a y (b .1) ps;
+    withdrawn-stays = λ i j r x a w l at-x at-a y b.
+        later r (λ g. In r (g .withdrawn)) (λ a. ⊥) (λ g h x a p n w. withdrawn-call c r p w) (λ g h q w p. withdrawn-bars r w p) (λ g h p. withdrawn-after r w p) l at-x at-a y (b .1)
+        (λ k d m n z e. e) ps;
+    tangled-stays = λ i j r l x a y f b.
+        later r (λ g. NoOrder g r) (λ a. a ≡ taken-back) (λ g h x a p t n. tangled-call r p t n) (λ g h q n p. tangled-bars r n p) (λ g h p. tangled-after r refl p) l x a y (b .1)
+        (λ k d m n z e. f k m n (rw e at z)) ps;
   }

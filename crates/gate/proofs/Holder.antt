@@ -1,6 +1,6 @@
--- A call for a caller that holds the record by value: the walk that `after_step` and `after_withdraw` share, over the call and the name of its function
--- on the lent record. A local gate is lent to that function for a lifetime that is made for the call, and read once the lifetime has ended. All that
--- the walk knows of that function is its contract.
+-- A call for a caller that holds the record by value: the walk that `after_step`, `after_withdraw` and `after_take_back` share, over the call and the name
+-- of its function on the lent record. A local gate is lent to that function for a lifetime that is made for the call, and read once the lifetime has ended.
+-- All that the walk knows of that function is its contract.
 use mathlib.Core.Path.{refl, ap}
 use Prim.Native.Nat.{ℕ, _<_, _^_}
 use mathlib.Core.List.{[], _∷_, List}

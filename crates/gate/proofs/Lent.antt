@@ -1,4 +1,4 @@
--- A call on the lent record: the walk that `step` and `withdraw` share, over the call and the name of its by-value function. The borrow is opened, the
+-- A call on the lent record: the walk that `step`, `withdraw` and `take_back` share, over the call and the name of its by-value function. The borrow is opened, the
 -- record behind it is copied whole into a local and passed to the by-value function, the gate of what that returns is stored over the record, and
 -- the borrow is closed at it. All that the walk knows of the by-value function is its contract.
 use mathlib.Core.Path.{refl, ap}

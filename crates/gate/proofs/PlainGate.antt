@@ -1,19 +1,19 @@
 -- The plain gate is single-valued: for each state and call there is at most one answer and next state (Total: and at least one). A withdrawn run
 -- stays withdrawn, and the book's own history plays no part.
-use Prim.Native.Nat.{ℕ, _≤_, _<_, zero-le}
+use Prim.Native.Nat.{ℕ, _<_}
 use native.Mathlib.Omega.{arith}
 use mathlib.Core.Path.{_≡_, refl, ap, sym}
 use mathlib.Core.Logic.{inl, inr}
 use mathlib.Core.Bool.{Bool, true, false}
 use mathlib.Core.List.{List, [], _∷_}
 use lib.Dec.{eqb, ltb}
-use borrow.Author.Tests.{eq-eqb}
+use borrow.Author.Tests.{eq-eqb, ne-eqb, eqb-false}
 use Rattle.theory.specs.History.{count, suc-if}
 use Rattle.theory.proofs.Places.{Compared, eq-cases}
 use Rattle.book.specs.Format.{Contents, pick, with-history}
 use Rattle.book.specs.Numbers.{number}
 use Rattle.book.specs.declared.Cause.{Cause}
-use Rattle.gate.specs.Plain.{Call, Answer, withdrawn, refused, State, In, insert, Eligible, Refusal, not-declared, was-withdrawn, all-kept, PlainCall, step-refused, step-tangled, step-kept, withdraw-refused, withdraws, PlainCalls, none, next}
+use Rattle.gate.specs.Plain.{Call, Answer, withdrawn, refused, State, In, insert, Eligible, Refusal, not-declared, was-withdrawn, all-kept, Removable, RemovalRefusal, undeclared, was-taken-back, PlainCall, step-refused, step-tangled, step-kept, withdraw-refused, withdraws, take-back-refused, takes-back, PlainCalls, none, next}
 
 -- ---- single-valued
 
@@ -38,6 +38,16 @@ module _ (c : Contents) (g : State) where
   one-cause (all-kept h n l) (was-withdrawn i w) = absurd (n w)
   one-cause (all-kept h n l) (all-kept i m k) = refl
 
+  not-removable : {r : ℕ} {cause : Cause} → RemovalRefusal c g r cause → Removable c g r → ⊥
+  not-removable (undeclared h) e = omega (arith, e .declared)
+  not-removable (was-taken-back h w) e = e .present w
+
+  one-removal-cause : {r : ℕ} {a b : Cause} → RemovalRefusal c g r a → RemovalRefusal c g r b → a ≡ b
+  one-removal-cause (undeclared h) (undeclared i) = refl
+  one-removal-cause (undeclared h) (was-taken-back i w) = absurd (omega arith)
+  one-removal-cause (was-taken-back h w) (undeclared i) = absurd (omega arith)
+  one-removal-cause (was-taken-back h w) (was-taken-back i v) = refl
+
   -- one answer and one next state at most
   pub single : {x : Call} {a b : Answer} {h k : State} → PlainCall c g x a h → PlainCall c g x b k → Equal a b h k
   single (step-refused p) (step-refused q) = record { answers = ap (λ (o : Cause). refused (number o)) (one-cause p q); states = refl }
@@ -53,6 +63,10 @@ module _ (c : Contents) (g : State) where
   single (withdraw-refused p) (withdraws e) = absurd (not-eligible p e)
   single (withdraws e) (withdraw-refused q) = absurd (not-eligible q e)
   single (withdraws e) (withdraws f) = record { answers = refl; states = refl }
+  single (take-back-refused p) (take-back-refused q) = record { answers = ap (λ (o : Cause). refused (number o)) (one-removal-cause p q); states = refl }
+  single (take-back-refused p) (takes-back e) = absurd (not-removable p e)
+  single (takes-back e) (take-back-refused q) = absurd (not-removable q e)
+  single (takes-back e) (takes-back f) = record { answers = refl; states = refl }
 
 pub single-calls : (c : Contents) {g h k : State} {xs : List Call} {bs ds : List Answer} → PlainCalls c g xs bs h → PlainCalls c g xs ds k → (bs ≡ ds) × (h ≡ k)
 single-calls c none none = (refl, refl)
@@ -63,23 +77,15 @@ single-calls c {g} (next {h} {a = a} {bs = bs} p ps) (next {h = i} {a = b} {bs =
 
 -- ---- a withdrawn run stays withdrawn
 
--- the numbers of a set with one more
-count-insert : (r q : ℕ) (w : List ℕ) → count w r ≤ count (insert q w) r
-count-insert r q [] = zero-le
-count-insert r q (x ∷ w) = go (ltb q x) (eqb q x) (count-insert r q w)
+-- another number stands in a set with one more as often as in the set
+pub count-insert-other : (r q : ℕ) (w : List ℕ) → (r ≡ q → ⊥) → count (insert r w) q ≡ count w q
+count-insert-other r q [] n = rw (ne-eqb r q n)
+count-insert-other r q (x ∷ w) n = go (ltb r x) (eqb r x) (count-insert-other r q w n)
   where
-    more : (b : Bool) (n : ℕ) → n ≤ suc-if b n
-    more true n = omega arith
-    more false n = omega arith
-
-    up : (b : Bool) {m n : ℕ} → m ≤ n → suc-if b m ≤ suc-if b n
-    up true l = omega arith
-    up false l = l
-
-    go : (b d : Bool) → count w r ≤ count (insert q w) r → count (x ∷ w) r ≤ count (pick b (q ∷ x ∷ w) (pick d (x ∷ w) (x ∷ insert q w))) r
-    go true d l = more (eqb q r) (count (x ∷ w) r)
-    go false true l = omega arith
-    go false false l = up (eqb x r) l
+    go : (b d : Bool) → count (insert r w) q ≡ count w q → count (pick b (r ∷ x ∷ w) (pick d (x ∷ w) (x ∷ insert r w))) q ≡ count (x ∷ w) q
+    go true d e = rw (ne-eqb r q n)
+    go false true e = refl
+    go false false e = ap (suc-if (eqb x q)) e
 
 pub in-insert : (r : ℕ) (w : List ℕ) → In r (insert r w)
 in-insert r [] = rw (eq-eqb r r refl) (omega arith)
@@ -94,13 +100,22 @@ in-insert r (x ∷ w) = go (ltb r x) (eq-cases r x) (in-insert r w)
     go false (inl e) i = rw (e .0, eq-eqb x r (sym (e .1))) (omega arith)
     go false (inr e) i = rw (e .0) (more (eqb x r) i)
 
+insert-keeps : (r q : ℕ) (w : List ℕ) → In r w → In r (insert q w)
+insert-keeps r q w i = go (eq-cases q r)
+  where
+    go : Compared q r → In r (insert q w)
+    go (inl e) = rw (e .1) (in-insert r w)
+    go (inr e) = omega (arith, count-insert-other q r w (eqb-false q r (e .0)))
+
 module _ (c : Contents) where
   pub withdrawn-call : (r : ℕ) {g h : State} {x : Call} {a : Answer} → PlainCall c g x a h → In r (g .withdrawn) → In r (h .withdrawn)
   withdrawn-call r (step-refused p) w = w
   withdrawn-call r (step-tangled e n) w = w
   withdrawn-call r (step-kept e s) w = w
   withdrawn-call r (withdraw-refused p) w = w
-  withdrawn-call r {g} (withdraws {r = q} e) w = omega (arith, count-insert r q (g .withdrawn))
+  withdrawn-call r {g} (withdraws {r = q} e) w = insert-keeps r q (g .withdrawn) w
+  withdrawn-call r (take-back-refused p) w = w
+  withdrawn-call r {g} (takes-back {r = q} e) w = insert-keeps r q (g .withdrawn) w
 
   -- ---- the book's own history plays no part
 
@@ -112,6 +127,10 @@ module _ (c : Contents) where
       refusal (was-withdrawn h w) = was-withdrawn h w
       refusal (all-kept h n l) = all-kept h n l
 
+      removal : {r : ℕ} {cause : Cause} → RemovalRefusal (with-history c k) g r cause → RemovalRefusal c g r cause
+      removal (undeclared h) = undeclared h
+      removal (was-taken-back h w) = was-taken-back h w
+
       eligible : {r : ℕ} → Eligible (with-history c k) g r → Eligible c g r
       eligible e = record { declared = e .declared; present = e .present; left = e .left }
 
@@ -121,3 +140,5 @@ module _ (c : Contents) where
       go (step-kept e s) = step-kept (eligible e) s
       go (withdraw-refused p) = withdraw-refused (refusal p)
       go (withdraws e) = withdraws (eligible e)
+      go (take-back-refused p) = take-back-refused (removal p)
+      go (takes-back e) = takes-back (record { declared = e .declared; present = e .present })

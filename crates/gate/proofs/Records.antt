@@ -1,22 +1,25 @@
 -- What each way through opening and the calls shows: the record's fields turned into the plain gate's words.
-use Prim.Native.Nat.{ℕ, zero, suc, _+_, _<_}
+use Prim.Native.Nat.{ℕ, zero, suc, _+_, _≤_, _<_}
 use native.Mathlib.Nat.{not-suc-le-zero, le-of-suc-le-suc}
 use native.Mathlib.Omega.{arith}
 use mathlib.Core.Path.{_≡_, refl, ap, sym, _∙_}
-use mathlib.Core.Bool.{Bool, true, false}
+use mathlib.Core.Bool.{Bool, true, false, _&&_}
 use mathlib.Core.List.{List, [], _∷_}
 use borrow.Author.Tests.{eq-eqb, ne-eqb, lt-ltb, le-ltb}
 use mir.Val.{Fits}
 use mir.Syntax.{w8, w64}
 use lib.ListN.{length, getD, set, replicate}
+use lib.Seq.{getD-set-same, getD-set-other, set-out}
+use native.Mathlib.Decide.{ℕ-discrete, decLt}
 use lib.Dec.{eqb}
+use Rattle.theory.specs.History.{count, project, but}
 use Rattle.theory.specs.Relative.{RelativelySerializable}
 use Rattle.book.specs.Format.{run-limit, step-limit, Contents, Outcome, pick, done, effect, refused as book-refused, with-history}
 use Rattle.book.specs.Meaning.{conflict-of, unit-of}
-use Rattle.book.specs.Book.{set-history, Represents, flagged, contents-of, Flags, Valid, empty-book, outcome-by, ReadAs}
+use Rattle.book.specs.Book.{set-history, Represents, flagged, unflagged, contents-of, Flags, Valid, empty-book, outcome-by, ReadAs}
 use Rattle.book.specs.declared.Book.{Book}
 use Rattle.book.specs.declared.Cause.{Cause}
-use Rattle.book.specs.declared.Cause.the-variants.{Tangled, Damaged}
+use Rattle.book.specs.declared.Cause.the-variants.{NotDeclared, Tangled, Damaged, TakenBack as WasTakenBack}
 use Rattle.book.specs.declared.Answer.{Answer as BookAnswer}
 use Rattle.book.specs.declared.Answer.the-variants.{Refused as BookRefused, Accepted as BookAccepted}
 use Rattle.book.specs.declared.Reading.{Reading}
@@ -24,13 +27,16 @@ use Rattle.book.proofs.Groups.{count-flagged, flags-set}
 use Rattle.book.proofs.Books.{runs-are, length-is, count-is, history-long, done-below-steps, represents-done}
 use Rattle.book.proofs.Empty.{represents-empty, history-empty}
 use Rattle.theory.specs.Answers.{Answers}
-use Rattle.theory.proofs.Answered.{answer-no, refute}
-use Rattle.gate.specs.Plain.{Call, step, withdraw, In, insert, Eligible, Refusal, IsTangled, place, PlainCall, step-refused, step-tangled, step-kept, withdraw-refused, withdraws, not-declared as plain-not-declared, was-withdrawn as plain-was-withdrawn, all-kept as plain-all-kept}
-use Rattle.gate.specs.Gate.{book-of, state-of, Sound, opening-answer, opened-book, OpenedAs, SoundCall, CalledAs, on-sound, on-damaged}
+use Rattle.theory.proofs.Answered.{answer-yes, answer-no, refute, answer-both}
+use Rattle.theory.proofs.Lists.{count-snoc, getD-zeros, getD-inside}
+use borrow.Author.Count.{below-more}
+use Rattle.theory.proofs.Within.{count-kept, count-left-out, project-same}
+use Rattle.gate.specs.Plain.{Call, step, withdraw, take-back, taken-back, In, insert, Eligible, Refusal, Removable, undeclared, was-taken-back, IsTangled, place, PlainCall, step-refused, step-tangled, step-kept, withdraw-refused, withdraws, take-back-refused, takes-back, not-declared as plain-not-declared, was-withdrawn as plain-was-withdrawn, all-kept as plain-all-kept}
+use Rattle.gate.specs.Gate.{book-of, state-of, Removed, Sound, opening-answer, opened-book, OpenedAs, SoundCall, CalledAs, on-sound, on-damaged}
 use Rattle.gate.specs.inner.Calls.{EligibleIn, RefusalIn, not-declared, was-withdrawn, all-kept, EligibilityIn, StepLeft}
 use Rattle.gate.specs.declared.Gate.{Gate}
 use Rattle.gate.specs.declared.Reply.{Reply}
-use Rattle.gate.specs.declared.Reply.the-variants.{Place, Withdrawn, Refused}
+use Rattle.gate.specs.declared.Reply.the-variants.{Place, Withdrawn, TakenBack, Refused}
 use Rattle.gate.specs.declared.Eligibility.{Eligibility}
 use Rattle.gate.specs.declared.Eligibility.the-variants.{Eligible as IsEligible, Refused as IsRefused}
 
@@ -49,20 +55,25 @@ book-opens (BookRefused cause at) b o e f = rw (← e, f cause at (sym e)) (ap (
 book-opens BookAccepted b o e f = rw (← e)
 
 pub opened-as : (o : Outcome) (r : Reading) (b : Book) → ReadAs o r → Represents (with-history (contents-of (r .book)) []) b
-    → OpenedAs o (record { answer = r .answer; gate = record { book = b; withdrawn = replicate run-limit 0 } })
+    → OpenedAs o (record { answer = r .answer; gate = record { book = b; withdrawn = replicate run-limit 0; «taken_back» = replicate run-limit 0 } })
 opened-as o r b w m = record {
   answer = sym (answer-opens (r .answer) (r .book)) ∙ ap opening-answer (w .outcome);
   book = rw (m .contents) (book-opens (r .answer) (r .book) o (w .outcome) (w .empty));
   state = rw (m .contents);
-  sound = record { valid = m .valid; flags = no-flags };
+  sound = record {
+    valid = m .valid;
+    flags = no-flags;
+    taken-flags = no-flags;
+    removed = record { withdrawn = λ r n. absurd (n (getD-zeros run-limit r)); no-step = λ r n. absurd (n (getD-zeros run-limit r)) };
+  };
 }
 
 -- ---- the withdrawn runs are the flagged flags
 
-flagged-in : (xs : List ℕ) (r : ℕ) → ¬ (getD xs r 0 ≡ 0) → In r (flagged 0 xs)
+pub flagged-in : (xs : List ℕ) (r : ℕ) → ¬ (getD xs r 0 ≡ 0) → In r (flagged 0 xs)
 flagged-in xs r n = omega (arith, rw (ne-eqb (getD xs r 0) 0 n) at (count-flagged xs r))
 
-flagged-out : (xs : List ℕ) (r : ℕ) → getD xs r 0 ≡ 0 → ¬ In r (flagged 0 xs)
+pub flagged-out : (xs : List ℕ) (r : ℕ) → getD xs r 0 ≡ 0 → ¬ In r (flagged 0 xs)
 flagged-out xs r e w = omega (arith, rw (eq-eqb (getD xs r 0) 0 e) at (count-flagged xs r))
 
 -- what is below every number of a rising list goes to its front
@@ -96,6 +107,30 @@ flagged-set j (y ∷ xs) (suc i) h =
 
 flag-set : (xs : List ℕ) (i : ℕ) → i < length xs → flagged 0 (set xs i 1) ≡ insert i (flagged 0 xs)
 flag-set xs i h = let z : 0 + i ≡ i = omega arith in rw z at (flagged-set 0 xs i h)
+
+-- a flag set by a call for the run of that number
+flag-joins : (xs : List ℕ) (r i : ℕ) → i ≡ r → Flags run-limit xs → i < run-limit → flagged 0 (set xs i 1) ≡ insert r (flagged 0 xs)
+flag-joins xs r i e f h = rw e (flag-set xs r (omega (arith, f .long)))
+
+-- a flag that is set stays so where one more is set, and that one is set
+flag-stays : (xs : List ℕ) (i x : ℕ) → ¬ (getD xs x 0 ≡ 0) → ¬ (getD (set xs i 1) x 0 ≡ 0)
+flag-stays xs i x n = all-but (ℕ-discrete x i) (decLt i (length xs))
+  where
+    all-but : Dec (x ≡ i) → Dec (i < length xs) → ¬ (getD (set xs i 1) x 0 ≡ 0)
+    all-but (yes q) (yes h) z = omega (arith, rw q at z, getD-set-same xs i 1 0 h)
+    all-but (yes q) (no h) z = n (rw (set-out xs i 1 (omega (arith, h))) at z)
+    all-but (no q) h z = n (sym (getD-set-other xs i x 1 0 q) ∙ z)
+
+flag-set-there : (xs : List ℕ) (i : ℕ) → Flags run-limit xs → i < run-limit → ¬ (getD (set xs i 1) i 0 ≡ 0)
+flag-set-there xs i f h z = omega (arith, getD-set-same xs i 1 0 (omega (arith, f .long)))
+
+-- the runs whose flag is 0, where only that of r is set, are those but r
+unflagged-but : (r : ℕ) → r < run-limit → (x : ℕ) → unflagged (set (replicate run-limit 0) r 1) x ≡ but r x
+unflagged-but r h x = go (ℕ-discrete x r)
+  where
+    go : Dec (x ≡ r) → unflagged (set (replicate run-limit 0) r 1) x ≡ but r x
+    go (yes q) = rw (q, getD-set-same {A = ℕ} (replicate run-limit 0) r 1 0 h, eq-eqb r r refl)
+    go (no q) = rw (getD-set-other {A = ℕ} (replicate run-limit 0) r x 1 0 q, getD-zeros run-limit x, ne-eqb r x (λ p. q (sym p)))
 
 -- ---- the step's book
 
@@ -137,7 +172,8 @@ module _ (g : Gate) (r i : ℕ) (y : Sound g) (e : i ≡ r) where
   }
 
   kept-of : (n : ℕ) (c : Contents) → n ≡ length (contents-of (g .book) .history) → c ≡ effect (done r) (contents-of (g .book)) → Eligible (book-of g) (state-of g) r
-      → ¬ IsTangled (book-of g) (state-of g) r → PlainCall (book-of g) (state-of g) (step r) (place n) (record { kept = c .history; withdrawn = flagged 0 (g .withdrawn) })
+      → ¬ IsTangled (book-of g) (state-of g) r
+      → PlainCall (book-of g) (state-of g) (step r) (place n) (record { kept = c .history; withdrawn = flagged 0 (g .withdrawn); taken-back = flagged 0 (g .«taken_back») })
   kept-of n c p q o s = rw (p, q) (step-kept o s)
 
   module _ (t : Eligibility) (w : EligibilityIn (g .book .declared) (g .book .lengths) (g .book .counts) (g .withdrawn) i t) where
@@ -157,32 +193,134 @@ module _ (g : Gate) (r i : ℕ) (y : Sound g) (e : i ≡ r) where
       pub flag-low : i < run-limit
       flag-low = omega (arith, in-tables .declared, y .valid .runs .few-runs)
 
-      pub withdraw-done : SoundCall g (withdraw r) Withdrawn (record { book = g .book; withdrawn = set (g .withdrawn) i 1 })
+      pub withdraw-done : SoundCall g (withdraw r) Withdrawn (record { book = g .book; withdrawn = set (g .withdrawn) i 1; «taken_back» = g .«taken_back» })
       withdraw-done = record {
-        plain = rw (ap (λ (n : ℕ). flagged 0 (set (g .withdrawn) n 1)) e ∙ flag-set (g .withdrawn) r (omega (arith, flag-low, y .flags .long))) (withdraws (eligible-of in-tables));
+        plain = rw (flag-joins (g .withdrawn) r i e (y .flags) flag-low) (withdraws (eligible-of in-tables));
         book = refl;
-        sound = record { valid = y .valid; flags = flags-set run-limit (g .withdrawn) i (y .flags) };
+        sound = record {
+          valid = y .valid;
+          flags = flags-set run-limit (g .withdrawn) i (y .flags);
+          taken-flags = y .taken-flags;
+          removed = record { withdrawn = λ x n. flag-stays (g .withdrawn) i x (y .removed .withdrawn x n); no-step = y .removed .no-step };
+        };
       }
 
       module _ (b : Book) (ok : Bool) (m : Represents (effect (done r) (contents-of (g .book))) b) (p : Answers (RelativelySerializable (conflict-of (contents-of b)) (unit-of (contents-of b)) (contents-of b .history)) ok) where
         pub step-tangles : ok ≡ false → SoundCall g (step r) (Refused Tangled) g
         step-tangles h = record { plain = step-tangled (eligible-of in-tables) (rw (m .contents) at (refute p h)); book = refl; sound = y }
 
-        pub step-keeps : ok ≡ true → SoundCall g (step r) (Place (g .book .done)) (record { book = b; withdrawn = g .withdrawn })
+        -- the run is none of those taken back, which are withdrawn
+        no-step-kept : (x : ℕ) → ¬ (getD (g .«taken_back») x 0 ≡ 0) → getD (b .counts) x 0 ≡ 0
+        no-step-kept x n =
+            let other : ¬ (r ≡ x) = λ q. y .removed .withdrawn x n (rw (← q, ← e) (in-tables .present)) in
+            let one-more : count (contents-of b .history) x ≡ count (contents-of (g .book) .history) x = rw (m .contents, count-snoc, ne-eqb r x other) in
+            omega (arith, count-is b (m .valid) x, one-more, count-is (g .book) (y .valid) x, y .removed .no-step x n)
+
+        pub step-keeps : ok ≡ true → SoundCall g (step r) (Place (g .book .done)) (record { book = b; withdrawn = g .withdrawn; «taken_back» = g .«taken_back» })
         step-keeps h = record {
           plain = kept-of (g .book .done) (contents-of b) (sym (history-long (g .book) (y .valid))) (m .contents) (eligible-of in-tables) (λ n. n (rw (m .contents) at (p .sound h)));
           book = rw (m .contents);
-          sound = record { valid = m .valid; flags = y .flags };
+          sound = record {
+            valid = m .valid;
+            flags = y .flags;
+            taken-flags = y .taken-flags;
+            removed = record { withdrawn = y .removed .withdrawn; no-step = no-step-kept };
+          };
         }
+
+-- ---- a take-back
+
+module _ (g : Gate) (r i : ℕ) (y : Sound g) (e : i ≡ r) where
+  pub take-back-undeclared : g .book .declared ≤ i → SoundCall g (take-back r) (Refused NotDeclared) g
+  take-back-undeclared h = record { plain = take-back-refused {r = r} (undeclared (rw (runs-are (g .book) (y .valid)) (omega arith))); book = refl; sound = y }
+
+  module _ (h : i < g .book .declared) where
+    pub removal-low : i < run-limit
+    removal-low = omega (arith, y .valid .runs .few-runs)
+
+    pub take-back-again : ¬ (getD (g .«taken_back») i 0 ≡ 0) → SoundCall g (take-back r) (Refused WasTakenBack) g
+    take-back-again n = record {
+      plain = take-back-refused {r = r} (was-taken-back (declared-in g r i y e h) (flagged-in (g .«taken_back») r (rw e at n)));
+      book = refl;
+      sound = y;
+    }
+
+    module _ (z : getD (g .«taken_back») i 0 ≡ 0) (b : Book)
+        (m : Represents (with-history (contents-of (g .book)) (project (unflagged (set (replicate run-limit 0) i 1)) (contents-of (g .book) .history))) b) where
+      others : contents-of b .history ≡ project (but r) (contents-of (g .book) .history)
+      others = rw (m .contents, e) (project-same _ _ (unflagged-but r (rw e at removal-low)) (contents-of (g .book) .history))
+
+      may-remove : Removable (book-of g) (state-of g) r
+      may-remove = record { declared = declared-in g r i y e h; present = flagged-out (g .«taken_back») r (rw e at z) }
+
+      -- a run that is taken back now or was before
+      gone : (x : ℕ) → ¬ (getD (set (g .«taken_back») i 1) x 0 ≡ 0) → Dec (x ≡ i) → ¬ (getD (set (g .withdrawn) i 1) x 0 ≡ 0) × (getD (b .counts) x 0 ≡ 0)
+      gone x n (yes q) = (rw q (flag-set-there (g .withdrawn) i (y .flags) removal-low), omega (arith, count-is b (m .valid) x, left))
+        where
+          left : count (contents-of b .history) x ≡ 0
+          left = rw (others, q, e) (count-left-out (but r) r (rw (eq-eqb r r refl)) (contents-of (g .book) .history))
+      gone x n (no q) = (flag-stays (g .withdrawn) i x (y .removed .withdrawn x before), omega (arith, count-is b (m .valid) x, kept, count-is (g .book) (y .valid) x, y .removed .no-step x before))
+        where
+          before : ¬ (getD (g .«taken_back») x 0 ≡ 0)
+          before = rw (getD-set-other (g .«taken_back») i x 1 0 q) at n
+
+          kept : count (contents-of b .history) x ≡ count (contents-of (g .book) .history) x
+          kept = rw others (count-kept (but r) x (rw (ne-eqb r x (λ p. q (sym p ∙ sym e)))) (contents-of (g .book) .history))
+
+      pub take-back-done : SoundCall g (take-back r) TakenBack (record { book = b; withdrawn = set (g .withdrawn) i 1; «taken_back» = set (g .«taken_back») i 1 })
+      take-back-done = record {
+        plain = rw (others, flag-joins (g .withdrawn) r i e (y .flags) removal-low, flag-joins (g .«taken_back») r i e (y .taken-flags) removal-low) (takes-back may-remove);
+        book = rw (m .contents);
+        sound = record {
+          valid = m .valid;
+          flags = flags-set run-limit (g .withdrawn) i (y .flags);
+          taken-flags = flags-set run-limit (g .«taken_back») i (y .taken-flags);
+          removed = record { withdrawn = λ x n. gone x n (ℕ-discrete x i) .0; no-step = λ x n. gone x n (ℕ-discrete x i) .1 };
+        };
+      }
 
 -- ---- any record
 
-module _ (g : Gate) (ok : Bool) (p : Answers (Flags run-limit (g .withdrawn)) ok) where
-  pub flags-fail : ok ≡ false → Answers (Sound g) false
-  flags-fail e = answer-no (λ y. refute p e (y .flags))
+-- the test of the runs taken back, up to run n
+pub record RemovedTo (taken flags counts : List ℕ) (n : ℕ) : Type 0 where
+  pub withdrawn : (r : ℕ) → r < n → ¬ (getD taken r 0 ≡ 0) → ¬ (getD flags r 0 ≡ 0)
+  pub no-step : (r : ℕ) → r < n → ¬ (getD taken r 0 ≡ 0) → getD counts r 0 ≡ 0
 
-  pub book-tells : ok ≡ true → (b : Bool) → Answers (Valid (g .book)) b → Answers (Sound g) b
-  book-tells e b q = record { sound = λ f. record { valid = q .sound f; flags = p .sound e }; complete = λ y. q .complete (y .valid) }
+module _ (taken flags counts : List ℕ) where
+  pub removed-none : RemovedTo taken flags counts 0
+  removed-none = record { withdrawn = λ r l. absurd (not-suc-le-zero l); no-step = λ r l. absurd (not-suc-le-zero l) }
+
+  module _ (n : ℕ) (w : RemovedTo taken flags counts n) where
+    pub removed-more : ¬ (getD flags n 0 ≡ 0) → getD counts n 0 ≡ 0 → RemovedTo taken flags counts (n + 1)
+    removed-more f z = record { withdrawn = below-more _ n (w .withdrawn) (λ t. f); no-step = below-more _ n (w .no-step) (λ t. z) }
+
+    pub not-taken-back : getD taken n 0 ≡ 0 → RemovedTo taken flags counts (n + 1)
+    not-taken-back z = record { withdrawn = below-more _ n (w .withdrawn) (λ t. absurd (t z)); no-step = below-more _ n (w .no-step) (λ t. absurd (t z)) }
+
+    pub removed-all : length taken ≡ run-limit → run-limit ≤ n → Answers (Removed taken flags counts) true
+    removed-all e l = answer-yes (record { withdrawn = λ r t. w .withdrawn r (inside r t) t; no-step = λ r t. w .no-step r (inside r t) t })
+      where
+        inside : (r : ℕ) → ¬ (getD taken r 0 ≡ 0) → r < n
+        inside r t = omega (arith, getD-inside taken r (omega (arith, t)))
+
+    pub not-withdrawn : ¬ (getD taken n 0 ≡ 0) → getD flags n 0 ≡ 0 → Answers (Removed taken flags counts) false
+    not-withdrawn t z = answer-no (λ v. v .withdrawn n t z)
+
+    pub step-kept-of-it : ¬ (getD taken n 0 ≡ 0) → ¬ (getD counts n 0 ≡ 0) → Answers (Removed taken flags counts) false
+    step-kept-of-it t f = answer-no (λ v. f (v .no-step n t))
+
+module _ (g : Gate) (p q s : Bool) (v : Answers (Flags run-limit (g .withdrawn)) p) (w : Answers (Flags run-limit (g .«taken_back»)) q)
+    (x : Answers (Removed (g .«taken_back») (g .withdrawn) (g .book .counts)) s) where
+  flags-answer : Answers ((Flags run-limit (g .withdrawn) × Flags run-limit (g .«taken_back»)) × Removed (g .«taken_back») (g .withdrawn) (g .book .counts)) (p && q && s)
+  flags-answer = answer-both (p && q) s (answer-both p q v (λ a. w)) (λ a. x)
+
+  pub flags-fail : (p && q && s) ≡ false → Answers (Sound g) false
+  flags-fail e = answer-no (λ y. refute flags-answer e ((y .flags, y .taken-flags), y .removed))
+
+  pub book-tells : (p && q && s) ≡ true → (b : Bool) → Answers (Valid (g .book)) b → Answers (Sound g) b
+  book-tells e b a =
+      let f = flags-answer .sound e in
+      record { sound = λ t. record { valid = a .sound t; flags = f .0 .0; taken-flags = f .0 .1; removed = f .1 }; complete = λ y. a .complete (y .valid) }
 
 pub tested-sound : (g : Gate) (ok : Bool) → Answers (Sound g) ok → ok ≡ true → Sound g
 tested-sound g ok p e = p .sound e

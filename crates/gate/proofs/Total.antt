@@ -12,7 +12,7 @@ use Rattle.theory.proofs.DeckLaws.{lawful}
 use Rattle.book.specs.Format.{Contents, lengths}
 use Rattle.book.specs.Meaning.{conflict-of, unit-of}
 use Rattle.book.specs.declared.Cause.{Cause}
-use Rattle.gate.specs.Plain.{Call, step, withdraw, Answer, State, In, Eligible, Refusal, not-declared, was-withdrawn, all-kept, PlainCall, step-refused, step-tangled, step-kept, withdraw-refused, withdraws, PlainCalls, none, next}
+use Rattle.gate.specs.Plain.{Call, step, withdraw, take-back, Answer, State, In, Eligible, Refusal, not-declared, was-withdrawn, all-kept, undeclared, was-taken-back, PlainCall, step-refused, step-tangled, step-kept, withdraw-refused, withdraws, take-back-refused, takes-back, PlainCalls, none, next}
 
 module _ (c : Contents) (g : State) where
   -- a call's answer and next state
@@ -47,6 +47,12 @@ module _ (c : Contents) (g : State) where
       go : Way r → Made (withdraw r)
       go (inl p) = record { answer = _; state = _; rule = withdraw-refused (p .1) }
       go (inr e) = record { answer = _; state = _; rule = withdraws e }
+  total (take-back r) = go (decLt r (length (c .runs))) (decLt 0 (count (g .taken-back) r))
+    where
+      go : Dec (r < length (c .runs)) → Dec (In r (g .taken-back)) → Made (take-back r)
+      go (no d) w = record { answer = _; state = _; rule = take-back-refused {r = r} (undeclared (omega (arith, d))) }
+      go (yes d) (yes w) = record { answer = _; state = _; rule = take-back-refused {r = r} (was-taken-back d w) }
+      go (yes d) (no n) = record { answer = _; state = _; rule = takes-back (record { declared = d; present = n }) }
 
 pub record AllMade (c : Contents) (g : State) (xs : List Call) : Type 0 where
   pub answers : List Answer

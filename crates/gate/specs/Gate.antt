@@ -1,15 +1,17 @@
--- What the gate's record means, and what opening and the calls promise (document 01, "Plain gate").
+-- What the gate's record means, and what opening and the calls promise (document 01, "Plain gate"; document 02, change 7).
+use Prim.Native.Nat.{ℕ}
 use mathlib.Core.Path.{_≡_}
-use mathlib.Core.List.{[]}
+use mathlib.Core.List.{List, []}
+use lib.ListN.{getD}
 use Rattle.book.specs.Format.{Contents, Outcome, run-limit, nothing, refused as book-refused, accepted as book-accepted, with-history}
 use Rattle.book.specs.Numbers.{number, Numbers, refused-with, value-of}
 use Rattle.book.specs.Book.{flagged, contents-of, Flags, Valid}
 use Rattle.book.specs.declared.Cause.the-variants.{Damaged}
 use Rattle.book.specs.declared.Answer.{Answer as BookAnswer}
 use Rattle.book.specs.declared.Answer.the-variants.{Refused as BookRefused, Accepted as BookAccepted}
-use Rattle.gate.specs.Plain.{Call, Answer, place, withdrawn, refused, State, newly-opened, PlainCall}
+use Rattle.gate.specs.Plain.{Call, Answer, place, withdrawn, taken-back, refused, State, newly-opened, PlainCall}
 use Rattle.gate.specs.declared.Reply.{Reply}
-use Rattle.gate.specs.declared.Reply.the-variants.{Place, Withdrawn, Refused}
+use Rattle.gate.specs.declared.Reply.the-variants.{Place, Withdrawn, TakenBack, Refused}
 use Rattle.gate.specs.declared.Gate.{Gate}
 use Rattle.gate.specs.declared.Opened.{Opened}
 
@@ -17,26 +19,35 @@ use Rattle.gate.specs.declared.Opened.{Opened}
 abbrev pub answer-of : Reply → Answer
 answer-of (Place p) = place p
 answer-of Withdrawn = withdrawn
+answer-of TakenBack = taken-back
 answer-of (Refused cause) = refused (number cause)
 
--- each case in numbers: the place of an admitted step; a withdrawal has no value; 20 to 23 and 26 with the number only
+-- each case in numbers: the place of an admitted step; a withdrawal and a take-back have no value; 20 to 23, 26 and 32 with the number only
 abbrev pub reply-numbers : Reply → Numbers
 reply-numbers (Place p) = value-of p
 reply-numbers Withdrawn = value-of 0
+reply-numbers TakenBack = value-of 0
 reply-numbers (Refused cause) = refused-with cause 0
 
 -- the record's book, whose own history plays no part
 abbrev pub book-of : Gate → Contents
 book-of g = with-history (contents-of (g .book)) []
 
--- the record's kept list is the history of its book, and its withdrawn runs are those whose flag is not 0
+-- the record's kept list is the history of its book; its withdrawn runs and those taken back are those whose flag is not 0
 abbrev pub state-of : Gate → State
-state-of g = record { kept = contents-of (g .book) .history; withdrawn = flagged 0 (g .withdrawn) }
+state-of g = record { kept = contents-of (g .book) .history; withdrawn = flagged 0 (g .withdrawn); taken-back = flagged 0 (g .«taken_back») }
+
+-- each run taken back is withdrawn, and no step of it is kept; by the flags of the runs taken back and of the withdrawn ones, and the counts of kept steps
+pub record Removed (taken flags counts : List ℕ) : Type 0 where
+  pub withdrawn : (r : ℕ) → ¬ (getD taken r 0 ≡ 0) → ¬ (getD flags r 0 ≡ 0)
+  pub no-step : (r : ℕ) → ¬ (getD taken r 0 ≡ 0) → getD counts r 0 ≡ 0
 
 -- the tables have their ranges and agree with each other; so it is of every record that opening hands back, and that a call leaves of such a one
 pub record Sound (g : Gate) : Type 0 where
   pub valid : Valid (g .book)
   pub flags : Flags run-limit (g .withdrawn)
+  pub taken-flags : Flags run-limit (g .«taken_back»)
+  pub removed : Removed (g .«taken_back») (g .withdrawn) (g .book .counts)
 
 -- opening is refused with cause and place as reading is, and then hands back the gate of a book without runs
 abbrev pub opening-answer : Outcome → BookAnswer

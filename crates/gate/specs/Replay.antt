@@ -9,7 +9,7 @@ use lib.Dec.{eqb, leb}
 use Rattle.book.specs.Format.{Contents, Outcome, pick, read, refused as book-refused, accepted as book-accepted}
 use Rattle.book.specs.Numbers.{Numbers, refused-with, value-of}
 use Rattle.book.specs.declared.Cause.the-variants.{NoCall, AnswersShort}
-use Rattle.gate.specs.Plain.{Call, step, withdraw, Answer, place, withdrawn, refused, State, newly-opened, PlainCalls}
+use Rattle.gate.specs.Plain.{Call, step, withdraw, take-back, Answer, place, withdrawn, taken-back, refused, State, newly-opened, PlainCalls}
 use Rattle.gate.specs.Demand.{Demand3}
 use Rattle.gate.specs.Gate.{book-of, state-of, opened-book, Sound}
 use Rattle.gate.specs.declared.Gate.{Gate}
@@ -17,29 +17,30 @@ use Rattle.gate.specs.declared.Played.{Played}
 use Rattle.gate.specs.declared.Played.the-variants.{Refused, Done}
 use Rattle.gate.specs.declared.Replayed.{Replayed}
 
--- two bytes a call (hexadecimal): 53 r steps run r, 57 r withdraws it
+-- two bytes a call (hexadecimal): 53 r steps run r, 57 r withdraws it, 54 r takes it back
 abbrev pub is-call : ℕ → Bool
-is-call o = eqb o 0x53 || eqb o 0x57
+is-call o = eqb o 0x53 || eqb o 0x57 || eqb o 0x54
 
 abbrev pub call-of : ℕ → ℕ → Call
-call-of o r = pick (eqb o 0x53) (step r) (withdraw r)
+call-of o r = pick (eqb o 0x53) (step r) (pick (eqb o 0x57) (withdraw r) (take-back r))
 
 abbrev pub calls-of : List ℕ → List Call
 calls-of [] = []
 calls-of (o ∷ []) = []
 calls-of (o ∷ r ∷ bs) = call-of o r ∷ calls-of bs
 
--- the offset of the first call that is neither 53 nor 57, or is cut off; the length where there is none. The list stands at the offset `at`
+-- the offset of the first call that is none of 53, 57 and 54, or is cut off; the length where there is none. The list stands at the offset `at`
 abbrev pub bad-at : ℕ → List ℕ → ℕ
 bad-at at [] = at
 bad-at at (o ∷ []) = at
 bad-at at (o ∷ r ∷ bs) = pick (is-call o) (bad-at (at + 2) bs) at
 
--- two bytes an answer: 0 and the place, 1 and 0 for "withdrawn", 2 and a refusal's number
+-- two bytes an answer: 0 and the place, 1 and 0 for "withdrawn", 2 and a refusal's number, 3 and 0 for "taken back"
 abbrev pub answer-bytes : Answer → List ℕ
 answer-bytes (place p) = 0 ∷ p ∷ []
 answer-bytes withdrawn = 1 ∷ 0 ∷ []
 answer-bytes (refused n) = 2 ∷ n ∷ []
+answer-bytes taken-back = 3 ∷ 0 ∷ []
 
 abbrev pub answers-bytes : List Answer → List ℕ
 answers-bytes [] = []
@@ -47,7 +48,7 @@ answers-bytes (a ∷ bs) = answer-bytes a ++ answers-bytes bs
 
 -- the answers that bytes stand for
 abbrev pub answer-in : ℕ → ℕ → Answer
-answer-in k x = pick (eqb k 0) (place x) (pick (eqb k 1) withdrawn (refused x))
+answer-in k x = pick (eqb k 0) (place x) (pick (eqb k 1) withdrawn (pick (eqb k 2) (refused x) taken-back))
 
 abbrev pub answers-in : List ℕ → List Answer
 answers-in [] = []

@@ -1,22 +1,23 @@
-// The gate: one record, updated by each call. Opening, step and withdraw, and the replay of a whole list of calls.
+// The gate: one record, updated by each call. Opening, step, withdraw and take back, and the replay of a whole list of calls.
 ghost use mathlib.Core.Path.{_≡_};
 ghost use Prim.Native.Nat.{_≤_};
 ghost use Rattle.theory.specs.Answers.{Answers};
 ghost use Rattle.book.specs.Format.{run-limit, done, effect, read};
 ghost use Rattle.book.specs.Book.{Represents, contents-of};
-ghost use Rattle.gate.specs.Plain.{step as step-call, withdraw as withdraw-call};
-ghost use Rattle.gate.specs.Gate.{Sound, SoundCall, OpenedAs, CalledAs};
-ghost use Rattle.gate.specs.Replay.{call-of, calls-of, bad-at, Replays};
+ghost use Rattle.gate.specs.Plain.{step as step-call, withdraw as withdraw-call, take-back as take-back-call};
+ghost use Rattle.gate.specs.Gate.{Removed, Sound, SoundCall, OpenedAs, CalledAs};
+ghost use Rattle.gate.specs.Replay.{is-call, call-of, calls-of, bad-at, Replays};
 ghost use Rattle.gate.specs.inner.Calls.{EligibilityIn, StepLeft, Low, BytesOf, AnswersRoom, Plays};
 use book::Answer;
 use book::Book;
 use book::Cause;
 
-// The book, whose history is the kept list, and a flag for each run: 1 once it is withdrawn, else 0.
+// The book, whose history is the kept list, and two flags for each run: 1 once it is withdrawn, and 1 once it is taken back, else 0.
 #[repr(C)]
 pub struct Gate {
     pub book: Book,
     pub withdrawn: [u8; Book::RUNS],
+    pub taken_back: [u8; Book::RUNS],
 }
 
 // The answer to a call.
@@ -24,6 +25,7 @@ pub enum Reply {
     // The place of an admitted step.
     Place(usize),
     Withdrawn,
+    TakenBack,
     Refused(Cause),
 }
 
@@ -39,7 +41,7 @@ pub struct Opened {
     pub gate: Gate,
 }
 
-// Opens a gate over a book: no step is kept, no run withdrawn.
+// Opens a gate over a book: no step is kept, no run withdrawn or taken back.
 pub fn open(s: &[u8]) -> Opened
     ensures { λ r. ⌜ OpenedAs (read (now (s .entry))) r ⌝ }
 {
@@ -47,11 +49,37 @@ pub fn open(s: &[u8]) -> Opened
     let answer = reading.answer;
     let whole = reading.book;
     let b = book::with_history(whole, b"");
-    let withdrawn = [0u8; Book::RUNS];
     Opened {
         answer,
-        gate: Gate { book: b, withdrawn },
+        gate: Gate {
+            book: b,
+            withdrawn: [0u8; Book::RUNS],
+            taken_back: [0u8; Book::RUNS],
+        },
     }
+}
+
+// Whether each run taken back is withdrawn and has no step kept.
+fn are_removed(
+    taken: [u8; Book::RUNS],
+    withdrawn: [u8; Book::RUNS],
+    counts: [u8; Book::RUNS],
+) -> bool
+    ensures { λ r. ⌜ Answers (Removed taken withdrawn counts) r ⌝ }
+{
+    let mut r: usize = 0;
+    while r < Book::RUNS {
+        if taken[r] != 0 {
+            if withdrawn[r] == 0 {
+                return false;
+            }
+            if counts[r] != 0 {
+                return false;
+            }
+        }
+        r += 1;
+    }
+    true
 }
 
 // Whether the record's tables have their ranges and agree with each other.
@@ -59,8 +87,11 @@ fn is_sound(g: Gate) -> bool
     ensures { λ r. ⌜ Answers (Sound g) r ⌝ }
 {
     let withdrawn = g.withdrawn;
-    if valid::are_flags(withdrawn) {
-        let b = g.book;
+    let taken_back = g.taken_back;
+    let flags = valid::are_flags(withdrawn) & valid::are_flags(taken_back);
+    let b = g.book;
+    let counts = b.counts;
+    if flags & are_removed(taken_back, withdrawn, counts) {
         return valid::is_valid(b);
     }
     false
@@ -115,6 +146,7 @@ fn step_sound(g: Gate, r: u8) -> Called
 {
     let b = g.book;
     let withdrawn = g.withdrawn;
+    let taken_back = g.taken_back;
     let i = book::wide(r);
     match eligibility_of(b.declared, &b.lengths, &b.counts, &withdrawn, i) {
         Eligibility::Refused(cause) => {
@@ -132,6 +164,7 @@ fn step_sound(g: Gate, r: u8) -> Called
                     gate: Gate {
                         book: longer,
                         withdrawn,
+                        taken_back,
                     },
                 };
             }
@@ -169,6 +202,42 @@ fn withdraw_sound(g: Gate, r: u8) -> Called
     }
 }
 
+// Take back r on a sound record.
+fn take_back_sound(g: Gate, r: u8) -> Called
+    requires { ⌜ Sound g ⌝ }
+    ensures { λ x. ⌜ SoundCall g (take-back-call r) (x .answer) (x .gate) ⌝ }
+{
+    let b = g.book;
+    let mut withdrawn = g.withdrawn;
+    let mut taken_back = g.taken_back;
+    let i = book::wide(r);
+    if i >= b.declared {
+        return Called {
+            answer: Reply::Refused(Cause::NotDeclared),
+            gate: g,
+        };
+    }
+    if taken_back[i] != 0 {
+        return Called {
+            answer: Reply::Refused(Cause::TakenBack),
+            gate: g,
+        };
+    }
+    let mut out = [0u8; Book::RUNS];
+    out[i] = 1;
+    withdrawn[i] = 1;
+    taken_back[i] = 1;
+    let others = book::without_runs(b, out);
+    Called {
+        answer: Reply::TakenBack,
+        gate: Gate {
+            book: others,
+            withdrawn,
+            taken_back,
+        },
+    }
+}
+
 // Step r on a record by value.
 fn step_value(g: Gate, r: u8) -> Called
     ensures { λ x. ⌜ CalledAs g (step-call r) (x .answer) (x .gate) ⌝ }
@@ -195,6 +264,19 @@ fn withdraw_value(g: Gate, r: u8) -> Called
     }
 }
 
+// Take back r on a record by value.
+fn take_back_value(g: Gate, r: u8) -> Called
+    ensures { λ x. ⌜ CalledAs g (take-back-call r) (x .answer) (x .gate) ⌝ }
+{
+    if is_sound(g) {
+        return take_back_sound(g, r);
+    }
+    Called {
+        answer: Reply::Refused(Cause::Damaged),
+        gate: g,
+    }
+}
+
 // Step r: refused by 26 where the record is not sound, then by 20, 21, 22, 23 in that order; else r joins the end of the kept list, and the answer is its place.
 pub fn step(g: &mut Gate, r: u8) -> Reply
     ensures { λ a. ⌜ CalledAs (now (g .entry)) (step-call r) a (now (g .exit)) ⌝ }
@@ -209,6 +291,16 @@ pub fn withdraw(g: &mut Gate, r: u8) -> Reply
     ensures { λ a. ⌜ CalledAs (now (g .entry)) (withdraw-call r) a (now (g .exit)) ⌝ }
 {
     let called = withdraw_value(*g, r);
+    *g = called.gate;
+    called.answer
+}
+
+// Take back r: refused by 26 where the record is not sound, then by 20, 32 in that order; else r's steps leave the kept list, the others stay in order, and
+// r is withdrawn.
+pub fn take_back(g: &mut Gate, r: u8) -> Reply
+    ensures { λ a. ⌜ CalledAs (now (g .entry)) (take-back-call r) a (now (g .exit)) ⌝ }
+{
+    let called = take_back_value(*g, r);
     *g = called.gate;
     called.answer
 }
@@ -231,17 +323,36 @@ pub fn after_withdraw(g: Gate, r: u8) -> Called
     Called { answer, gate: h }
 }
 
-// One call in two bytes: 0x53 and a run steps it, 0x57 and a run withdraws it.
+// `take_back`, for a caller that holds the record by value.
+pub fn after_take_back(g: Gate, r: u8) -> Called
+    ensures { λ called. ⌜ CalledAs g (take-back-call r) (called .answer) (called .gate) ⌝ }
+{
+    let mut h = g;
+    let answer = take_back(&mut h, r);
+    Called { answer, gate: h }
+}
+
+// Whether the first byte of a call is one: 0x53 for a step, 0x57 for a withdrawal, 0x54 for a take-back.
+fn is_call(op: u8) -> bool
+    ensures { λ r. ⌜ r ≡ is-call op ⌝ }
+{
+    (op == 0x53) | (op == 0x57) | (op == 0x54)
+}
+
+// One call in two bytes: 0x53 and a run steps it, 0x57 and a run withdraws it, 0x54 and a run takes it back.
 fn call_value(g: Gate, op: u8, r: u8) -> Called
     ensures { λ x. ⌜ CalledAs g (call-of op r) (x .answer) (x .gate) ⌝ }
 {
     if op == 0x53 {
         return after_step(g, r);
     }
-    after_withdraw(g, r)
+    if op == 0x57 {
+        return after_withdraw(g, r);
+    }
+    after_take_back(g, r)
 }
 
-// The two bytes of an answer: 0 and the place, 1 and 0 for "withdrawn", 2 and a refusal's number.
+// The two bytes of an answer: 0 and the place, 1 and 0 for "withdrawn", 2 and a refusal's number, 3 and 0 for "taken back".
 struct AnswerBytes {
     first: u8,
     second: u8,
@@ -260,6 +371,10 @@ fn answer_bytes(a: Reply) -> AnswerBytes
             first: 1,
             second: 0,
         },
+        Reply::TakenBack => AnswerBytes {
+            first: 3,
+            second: 0,
+        },
         Reply::Refused(cause) => AnswerBytes {
             first: 2,
             second: book::number_of(cause),
@@ -267,7 +382,7 @@ fn answer_bytes(a: Reply) -> AnswerBytes
     }
 }
 
-// The offset of the first call that is neither 0x53 nor 0x57, or is cut off; the length where there is none.
+// The offset of the first call that is none of 0x53, 0x57 and 0x54, or is cut off; the length where there is none.
 fn bad_call(calls: &[u8]) -> usize
     ensures { λ r. ⌜ r ≡ bad-at 0 (now (calls .entry)) ⌝ }
 {
@@ -276,13 +391,11 @@ fn bad_call(calls: &[u8]) -> usize
         if calls.len() - at < 2 {
             return at;
         }
-        let op = calls[at];
-        if op != 0x53 {
-            if op != 0x57 {
-                return at;
-            }
+        if is_call(calls[at]) {
+            at += 2;
+        } else {
+            return at;
         }
-        at += 2;
     }
     at
 }

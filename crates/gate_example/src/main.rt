@@ -1,4 +1,5 @@
-// Document 01's gate example, run: a gate over the runs of row 2, uncut, and the answers to its eight calls, a line each.
+// Document 01's gate example, run: a gate over the runs of row 2, uncut, and the answers to its eight calls, a line each. Behind them those to calls on
+// another gate over the same runs, which take runs back (document 02, change 7).
 use gate::Played;
 use libc::STDOUT_FILENO;
 
@@ -15,16 +16,29 @@ fn write_answer(first: u8, second: u8) {
         write_line(b"place ", second);
     } else if first == 1 {
         io::write_all(STDOUT_FILENO, b"withdrawn\n");
+    } else if first == 3 {
+        io::write_all(STDOUT_FILENO, b"taken back\n");
     } else {
         write_line(b"refused ", second);
     }
 }
 
-fn write_answers(answers: &[u8; 16]) {
+fn write_answers(answers: &[u8]) {
+    let n = answers.len() / 2;
     let mut i = 0;
-    while i < 8 {
+    while i < n {
         write_answer(answers[2 * i], answers[2 * i + 1]);
         i += 1;
+    }
+}
+
+// Makes the calls on a gate newly opened over the book, and writes their answers.
+fn write_replay(book: &[u8], calls: &[u8], answers: &mut [u8]) {
+    let replayed = gate::replay(book, calls, answers);
+    let played = replayed.played;
+    match played {
+        Played::Done(_) => write_answers(answers),
+        Played::Refused(cause, _) => write_line(b"refused by ", book::number_of(cause)),
     }
 }
 
@@ -33,12 +47,17 @@ fn main() {
     let book =
         b"\x43\x00\x01\x43\x00\x02\x43\x01\x01\x43\x01\x02\x52\x00\x53\x01\x00\x05\x53\x01\x00\x06\x52\x01\x53\x00\x00\x05\x53\x00\x00\x06\x45";
     // Step 0, 1, 1, 0; withdraw 0; step 0, 1, 2.
-    let calls = b"\x53\x00\x53\x01\x53\x01\x53\x00\x57\x00\x53\x00\x53\x01\x53\x02";
     let mut answers = [0u8; 16];
-    let replayed = gate::replay(book, calls, &mut answers);
-    let played = replayed.played;
-    match played {
-        Played::Done(_) => write_answers(&answers),
-        Played::Refused(cause, _) => write_line(b"refused by ", book::number_of(cause)),
-    }
+    write_replay(
+        book,
+        b"\x53\x00\x53\x01\x53\x01\x53\x00\x57\x00\x53\x00\x53\x01\x53\x02",
+        &mut answers,
+    );
+    // Step 0, 1, 1, 0; take back 1; step 0, 1; withdraw 1; take back 1, 2, 0.
+    let mut more = [0u8; 22];
+    write_replay(
+        book,
+        b"\x53\x00\x53\x01\x53\x01\x53\x00\x54\x01\x53\x00\x53\x01\x57\x01\x54\x01\x54\x02\x54\x00",
+        &mut more,
+    );
 }

@@ -4,12 +4,11 @@ use native.Mathlib.Nat.{not-suc-le-zero, lt-irrefl, le-of-suc-le-suc, le-of-eq}
 use native.Mathlib.Omega.{arith}
 use mathlib.Core.Path.{_≡_, refl, sym, ap, _∙_}
 use mathlib.Core.Logic.{inl, inr, _≢_, _↔_}
-use mathlib.Core.Bool.{Bool, not}
+use mathlib.Core.Bool.{Bool}
 use mathlib.Core.List.{List, [], _∷_}
 use lib.ListN.{length}
-use lib.Dec.{eqb}
 use borrow.Author.Tests.{eq-eqb, ne-eqb}
-use Rattle.theory.specs.History.{count, run, ordinal, Serial, project}
+use Rattle.theory.specs.History.{count, run, ordinal, Serial, project, but}
 use Rattle.theory.specs.Relative.{Lawful, Conflicting, direct, Agrees, ConflictSerializable, InUnit, RelativelySerial, RelativelySerializable}
 use Rattle.theory.specs.inner.Places.{place-of}
 use Rattle.theory.proofs.Places.{Compared, eq-cases, place-of-spec, place-of-mono, place-of-back, ordinal-lt}
@@ -90,10 +89,6 @@ serial-within m l v mono ser x y z k j i e =
     let sx = at-same m l v x ix in
     let sz = at-same m l v z i in
     sym (at-same m l v y iy .runs) ∙ ser (at m l x) (at m l y) (at m l z) (mono x y k iy) (mono y z j i) (at-lt m l v z i) (sx .runs ∙ e ∙ sym (sz .runs)) ∙ sx .runs
-
--- the runs but x
-abbrev but : ℕ → ℕ → Bool
-but x y = not (eqb x y)
 
 pub gather : (l : List ℕ) → Gathered l
 gather [] = record { rest = []; counts = λ r. refl; serial = λ a b c k j i e. absurd (not-suc-le-zero i); firsts = λ r i s j p q ne h. h }

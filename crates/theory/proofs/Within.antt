@@ -254,6 +254,21 @@ module _ (keep : ℕ → Bool) where
               other : (r i : ℕ) → i < count (project keep l) r → eqb x r ≡ false
               other r i p = ne-eqb x r (λ f. not-suc-le-zero (rw (count-left-out r (ap keep (sym f) ∙ e) l) at p))
 
+  pub project-append : (l m : List ℕ) → project keep (l ++ m) ≡ project keep l ++ project keep m
+  unfolding project
+  project-append [] m = refl
+  project-append (x ∷ l) m = go (keep x) (project-append l m)
+    where
+      go : (b : Bool) → project keep (l ++ m) ≡ project keep l ++ project keep m → only b x (project keep (l ++ m)) ≡ only b x (project keep l) ++ project keep m
+      go true e = ap (λ (k : List ℕ). x ∷ k) e
+      go false e = e
+
+-- tests with the same answers keep the same steps
+pub project-same : (keep keep′ : ℕ → Bool) → ((x : ℕ) → keep x ≡ keep′ x) → (l : List ℕ) → project keep l ≡ project keep′ l
+unfolding project
+project-same keep keep′ e [] = refl
+project-same keep keep′ e (x ∷ l) = rw (e x, project-same keep keep′ e l)
+
 -- leaving runs out of a relatively serializable history leaves a relatively serializable one
 pub project-serializable : (conflict : ℕ → ℕ → ℕ → ℕ → Bool) (unit : ℕ → ℕ → ℕ → ℕ) (keep : ℕ → Bool) (h : List ℕ) → RelativelySerializable conflict unit h → RelativelySerializable conflict unit (project keep h)
 project-serializable conflict unit keep h s =

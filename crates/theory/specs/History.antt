@@ -3,7 +3,7 @@
 -- A place is an index into the list, from 0. A step is told by its run and its ordinal, its number in the run, from 0.
 use Prim.Native.Nat.{ℕ, zero, suc, _<_}
 use mathlib.Core.Path.{_≡_}
-use mathlib.Core.Bool.{Bool, true, false}
+use mathlib.Core.Bool.{Bool, true, false, not}
 use mathlib.Core.List.{List, [], _∷_}
 use lib.ListN.{length, getD, take}
 use lib.Dec.{eqb}
@@ -48,3 +48,7 @@ only false x l = l
 unfoldable pub project : (ℕ → Bool) → List ℕ → List ℕ
 project keep [] = []
 project keep (x ∷ l) = only (keep x) x (project keep l)
+
+-- the runs but x
+abbrev pub but : ℕ → ℕ → Bool
+but x y = not (eqb x y)

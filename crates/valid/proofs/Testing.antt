@@ -2,7 +2,7 @@
 use Prim.Native.Nat.{ℕ, zero, suc, _-_, _≤_, _<_, zero-le}
 use mathlib.Core.Path.{_≡_, refl, sym, _∙_}
 use mathlib.Core.List.{List}
-use mathlib.Core.Bool.{Bool, true, false, _&&_}
+use mathlib.Core.Bool.{Bool, false, _&&_}
 use native.Mathlib.Omega.{arith}
 use native.Mathlib.Decide.{decLe}
 use borrow.Author.Tests.{ltb-true, leb-true, eqb-true, lt-ltb, le-leb, eq-eqb}
@@ -12,14 +12,14 @@ use Rattle.theory.specs.Lists.{sum}
 use Rattle.theory.specs.History.{count}
 use Rattle.theory.specs.Answers.{Answers}
 use Rattle.theory.proofs.Lists.{sum-front, count-take-ne}
-use Rattle.theory.proofs.Answered.{answer-no, refute}
+use Rattle.theory.proofs.Answered.{answer-no, answer-both, answer-same}
 use Rattle.book.specs.Format.{run-limit, run-step-limit, step-limit}
 use Rattle.book.specs.Book.{pairs-size, cuts-size, code-limit, Flags, Column, RunsValid, Valid}
 use Rattle.book.specs.declared.Book.{Book}
 use Rattle.book.proofs.Books.{done-within}
 use Rattle.valid.specs.inner.Tables.{Largest, CountsValid, HistoryWithin}
 
--- ---- tests of numbers, and two tests
+-- ---- tests of numbers
 
 lt-answers : (a b : ℕ) → Answers (a < b) (ltb a b)
 lt-answers a b = record { sound = ltb-true a b; complete = lt-ltb a b }
@@ -30,28 +30,20 @@ le-answers a b = record { sound = leb-true a b; complete = le-leb a b }
 eq-answers : (a b : ℕ) → Answers (a ≡ b) (eqb a b)
 eq-answers a b = record { sound = eqb-true a b; complete = eq-eqb a b }
 
-both : {P Q : Type 0} (a b : Bool) → Answers P a → (P → Answers Q b) → Answers (P × Q) (a && b)
-both true b p q = record { sound = λ e. (p .sound refl, q (p .sound refl) .sound e); complete = λ r. q (r .0) .complete (r .1) }
-both false b p q = answer-no (λ r. refute p refl (r .0))
-
--- an answer serves a statement that is as strong
-same : {P Q : Type 0} {a : Bool} → (P → Q) → (Q → P) → Answers P a → Answers Q a
-same f g p = record { sound = λ e. f (p .sound e); complete = λ q. p .complete (g q) }
-
 -- ---- flags and columns, by their largest
 
 pub flags-answer : (l : List ℕ) (m : ℕ) → Largest l 0 m → Answers (Flags (length l) l) (leb m 1)
-flags-answer l m g = same (λ h. record { long = refl; small = λ i. omega (arith, g .above i zero-le) }) (λ f. g .least 1 (λ i h. f .small i)) (le-answers m 1)
+flags-answer l m g = answer-same (λ h. record { long = refl; small = λ i. omega (arith, g .above i zero-le) }) (λ f. g .least 1 (λ i h. f .small i)) (le-answers m 1)
 
 -- of a table of n
 pub sized-flags : (l : List ℕ) (n : ℕ) (a : Bool) → Answers (Flags (length l) l) a → length l ≡ n → Answers (Flags n l) a
 sized-flags l n a p e = rw e at p
 
 pub column-answer : (l : List ℕ) (limit end a b : ℕ) → Largest l 0 a → Largest l end b → Answers (Column (length l) limit end l) (ltb a limit && eqb b 0)
-column-answer l limit end a b g k = same
+column-answer l limit end a b g k = answer-same
     (λ h. record { long = refl; small = λ i. omega (arith, g .above i zero-le, h .0); blank = λ i e. omega (arith, k .above i e, h .1) })
     (λ c. (omega (arith, g .least (limit - 1) (λ i h. omega (arith, c .small i)), c .small 0), omega (arith, k .least 0 (λ i e. omega (arith, c .blank i e)))))
-    (both _ _ (lt-answers a limit) (λ h. eq-answers b 0))
+    (answer-both _ _ (lt-answers a limit) (λ h. eq-answers b 0))
 
 -- ---- runs_valid
 
@@ -59,14 +51,14 @@ module _ (ls ss : List ℕ) (d t s : ℕ) (p q : Bool) (long : length ls ≡ run
   total-answer : Column run-limit (suc run-step-limit) d ls → Answers (sum (take d ls) ≡ t) (eqb s t)
   total-answer c =
       let e : sum (take d ls) ≡ s = sum-front d ls (c .blank) ∙ sym adds in
-      same (λ h. e ∙ h) (λ h. sym e ∙ h) (eq-answers s t)
+      answer-same (λ h. e ∙ h) (λ h. sym e ∙ h) (eq-answers s t)
 
   pub runs-answer : Answers (Column (length ls) (suc run-step-limit) d ls) p → Answers (Column (length ss) code-limit t ss) q
       → Answers (RunsValid ls ss d t) (leb d run-limit && leb t step-limit && (p && q) && eqb s t)
-  runs-answer x y = same
+  runs-answer x y = answer-same
       (λ h. record { lengths = h .0 .1 .0; steps = h .0 .1 .1; few-runs = h .0 .0 .0; few-steps = h .0 .0 .1; total = h .1 })
       (λ v. (((v .few-runs, v .few-steps), (v .lengths, v .steps)), v .total))
-      (both _ _ (both _ _ (both _ _ (le-answers d run-limit) (λ h. le-answers t step-limit)) (λ h. both _ _ (rw long at x) (λ h. rw many at y))) (λ h. total-answer (h .1 .0)))
+      (answer-both _ _ (answer-both _ _ (answer-both _ _ (le-answers d run-limit) (λ h. le-answers t step-limit)) (λ h. answer-both _ _ (rw long at x) (λ h. rw many at y))) (λ h. total-answer (h .1 .0)))
 
 -- ---- history_valid
 
@@ -90,7 +82,7 @@ module _ (ls ns h : List ℕ) (k : ℕ) where
 
   pub history-answer : (s : ℕ) (p q : Bool) → k ≤ step-limit → length ns ≡ run-limit → length h ≡ step-limit → s ≡ sum ns
       → Answers (Column (length h) run-limit k h) p → Answers (CountsValid ls ns h k run-limit) q → Answers (HistoryWithin ls ns h k) (p && eqb s k && q)
-  history-answer s p q few long room adds x y = same
+  history-answer s p q few long room adds x y = answer-same
       (λ a. record {
         few = few;
         valid = record {
@@ -102,14 +94,14 @@ module _ (ls ns h : List ℕ) (k : ℕ) where
         };
       })
       (λ v. ((v .valid .history, adds ∙ v .valid .total), record { counts = λ r l. v .valid .counts r; within = λ r l. v .valid .within r }))
-      (both _ _ (both _ _ (rw room at x) (λ a. eq-answers s k)) (λ a. y))
+      (answer-both _ _ (answer-both _ _ (rw room at x) (λ a. eq-answers s k)) (λ a. y))
 
 -- ---- is_valid
 
 pub valid-answer : (b : Book) (p q u w : Bool) → length (b .pairs) ≡ pairs-size → length (b .cuts) ≡ cuts-size
     → Answers (Flags (length (b .pairs)) (b .pairs)) p → Answers (Flags (length (b .cuts)) (b .cuts)) q → Answers (RunsValid (b .lengths) (b .steps) (b .declared) (b .total)) u
     → Answers (HistoryWithin (b .lengths) (b .counts) (b .history) (b .done)) w → Answers (Valid b) (p && q && u && w)
-valid-answer b p q u w few many x y z a = same
+valid-answer b p q u w few many x y z a = answer-same
     (λ h. record { pairs = h .0 .0 .0; cuts = h .0 .0 .1; runs = h .0 .1; history = h .1 .valid })
     (λ v. (((v .pairs, v .cuts), v .runs), record { few = done-within b v; valid = v .history }))
-    (both _ _ (both _ _ (both _ _ (rw few at x) (λ h. rw many at y)) (λ h. z)) (λ h. a))
+    (answer-both _ _ (answer-both _ _ (answer-both _ _ (rw few at x) (λ h. rw many at y)) (λ h. z)) (λ h. a))

@@ -16,6 +16,12 @@ enum-told c = search needs
 value-of-requires-2 : tie.Need-value-of-requires-2
 value-of-requires-2 c κs = search needs
 
+enum-told-2 : tie.Need-enum-told-2
+enum-told-2 c = search needs
+
+value-of-requires-3 : tie.Need-value-of-requires-3
+value-of-requires-3 c κs = search needs
+
 enum-known-reply-2 : tie.Need-enum-known-reply-2
 enum-known-reply-2 c = search needs
 
@@ -31,6 +37,9 @@ returns-2 c = search reply-is
 returns-3 : tie.Need-returns-3
 returns-3 c = search reply-is
 
+returns-4 : tie.Need-returns-4
+returns-4 c = search reply-is
+
 pub of-call-spec : {M : Type 1} → statement M
 of-call-spec =
     tie.close
@@ -39,8 +48,11 @@ of-call-spec =
     value-of-requires
     enum-told
     value-of-requires-2
+    enum-told-2
+    value-of-requires-3
     enum-known-reply-2
     refused-with-requires
     returns
     returns-2
-    returns-3)
+    returns-3
+    returns-4)

@@ -1,5 +1,5 @@
 -- `answer_bytes` is right: a place fits a byte, and `number_of` gives a refusal's number.
-use Rattle.gate.proofs.CallBytes.{place-fits, place-bytes, withdrawn-bytes, number-bytes}
+use Rattle.gate.proofs.CallBytes.{place-fits, place-bytes, withdrawn-bytes, taken-back-bytes, number-bytes}
 use borrow.Author.Needs.{needs}
 use Rattle.gate.proofs.answer_bytes.Statement.{statement}
 use Rattle.gate.proofs.answer_bytes.Tie as tie
@@ -12,6 +12,9 @@ cast-t5 c = search place-fits
 
 enum-told : tie.Need-enum-told
 enum-told c = search needs
+
+enum-told-2 : tie.Need-enum-told-2
+enum-told-2 c = search needs
 
 enum-known-a-2 : tie.Need-enum-known-a-2
 enum-known-a-2 c = search needs
@@ -26,7 +29,10 @@ returns-2 : tie.Need-returns-2
 returns-2 c = search withdrawn-bytes
 
 returns-3 : tie.Need-returns-3
-returns-3 c = search number-bytes
+returns-3 c = search taken-back-bytes
+
+returns-4 : tie.Need-returns-4
+returns-4 c = search number-bytes
 
 pub answer-bytes-spec : {M : Type 1} → statement M
 answer-bytes-spec =
@@ -35,8 +41,10 @@ answer-bytes-spec =
     enum-known-a
     cast-t5
     enum-told
+    enum-told-2
     enum-known-a-2
     number-of-requires
     returns
     returns-2
-    returns-3)
+    returns-3
+    returns-4)

@@ -1,8 +1,7 @@
 -- `bad_call` is right: at each turn of the loop the rest of the list has the same first bad offset.
-use mathlib.Core.Logic.{⊎-elim}
 use Prim.Native.Nat.{_-_}
 use lib.ListN.{length}
-use Rattle.gate.proofs.CallBytes.{Scanned, scan-start, scan-short, scan-bad, scan-step, scan-withdraw, scan-end}
+use Rattle.gate.proofs.CallBytes.{Scanned, scan-start, scan-short, scan-bad, scan-next, scan-end}
 use borrow.Author.Needs.{needs}
 use Rattle.gate.proofs.bad_call.Statement.{statement}
 use Rattle.gate.proofs.bad_call.Tie as tie
@@ -22,11 +21,11 @@ sub-if1 c = search needs
 returns : tie.Need-returns Inv-loop μ-loop
 returns c = search scan-short
 
-shared-slice-read-op : tie.Need-shared-slice-read-op Inv-loop μ-loop
-shared-slice-read-op c = search needs
+shared-slice-read-is-call : tie.Need-shared-slice-read-is-call Inv-loop μ-loop
+shared-slice-read-is-call c = search needs
 
-returns-2 : tie.Need-returns-2 Inv-loop μ-loop
-returns-2 c = search scan-bad
+is-call-requires : tie.Need-is-call-requires Inv-loop μ-loop
+is-call-requires c κs = search needs
 
 add-at : tie.Need-add-at Inv-loop μ-loop
 add-at c = search needs
@@ -35,7 +34,10 @@ loop-less : tie.Need-loop-less Inv-loop μ-loop
 loop-less c = search needs
 
 loop-again : tie.Need-loop-again Inv-loop μ-loop
-loop-again c = ⊎-elim (λ w. search scan-withdraw) (λ w. search scan-step) (c .if2 .came)
+loop-again c = search scan-next
+
+returns-2 : tie.Need-returns-2 Inv-loop μ-loop
+returns-2 c = search scan-bad
 
 returns-3 : tie.Need-returns-3 Inv-loop μ-loop
 returns-3 c = search scan-end
@@ -49,9 +51,10 @@ bad-call-spec =
     loop-holds
     sub-if1
     returns
-    shared-slice-read-op
-    returns-2
+    shared-slice-read-is-call
+    is-call-requires
     add-at
     loop-less
     loop-again
+    returns-2
     returns-3)
