@@ -1,14 +1,14 @@
--- `write_answers` is safe and ends: `i` goes to 8.
+-- `write_answers` is safe and ends: `i` goes to the number of answers.
 use Prim.Native.Nat.{_-_, _≤_}
 use borrow.Author.Needs.{needs}
 use Rattle.gate_example.proofs.write_answers.Statement.{statement}
 use Rattle.gate_example.proofs.write_answers.Tie as tie
 
 abbrev Inv-loop : tie.InvT-loop
-Inv-loop answers i₀ i = i ≤ 8
+Inv-loop answers n i₀ i = i ≤ n
 
 abbrev μ-loop : tie.MeasureT-loop
-μ-loop answers i₀ i = 8 - i
+μ-loop answers n i₀ i = n - i
 
 loop-holds : tie.Need-loop-holds Inv-loop μ-loop
 loop-holds c = search needs
@@ -16,8 +16,8 @@ loop-holds c = search needs
 mul-write-answer : tie.Need-mul-write-answer Inv-loop μ-loop
 mul-write-answer c = search needs
 
-element-copy-out-write-answer : tie.Need-element-copy-out-write-answer Inv-loop μ-loop
-element-copy-out-write-answer c = search needs
+shared-slice-read-write-answer : tie.Need-shared-slice-read-write-answer Inv-loop μ-loop
+shared-slice-read-write-answer c = search needs
 
 mul-write-answer-2 : tie.Need-mul-write-answer-2 Inv-loop μ-loop
 mul-write-answer-2 c = search needs
@@ -25,8 +25,8 @@ mul-write-answer-2 c = search needs
 add-write-answer : tie.Need-add-write-answer Inv-loop μ-loop
 add-write-answer c = search needs
 
-element-copy-out-write-answer-2 : tie.Need-element-copy-out-write-answer-2 Inv-loop μ-loop
-element-copy-out-write-answer-2 c = search needs
+shared-slice-read-write-answer-2 : tie.Need-shared-slice-read-write-answer-2 Inv-loop μ-loop
+shared-slice-read-write-answer-2 c = search needs
 
 write-answer-requires : tie.Need-write-answer-requires Inv-loop μ-loop
 write-answer-requires c κs = search needs
@@ -51,10 +51,10 @@ write-answers-spec =
     μ-loop
     loop-holds
     mul-write-answer
-    element-copy-out-write-answer
+    shared-slice-read-write-answer
     mul-write-answer-2
     add-write-answer
-    element-copy-out-write-answer-2
+    shared-slice-read-write-answer-2
     write-answer-requires
     add-i
     loop-less
