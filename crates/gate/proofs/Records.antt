@@ -27,12 +27,12 @@ use Rattle.book.proofs.Groups.{count-flagged, flags-set}
 use Rattle.book.proofs.Books.{runs-are, length-is, count-is, history-long, done-below-steps, represents-done}
 use Rattle.book.proofs.Empty.{represents-empty, history-empty}
 use Rattle.theory.specs.Answers.{Answers}
-use Rattle.theory.proofs.Answered.{answer-yes, answer-no, refute, answer-both}
-use Rattle.theory.proofs.Lists.{count-snoc, getD-zeros, getD-inside}
-use borrow.Author.Count.{below-more}
+use Rattle.theory.proofs.Answered.{answer-no, refute, answer-both}
+use Rattle.theory.proofs.Lists.{count-snoc, getD-zeros}
 use Rattle.theory.proofs.Within.{count-kept, count-left-out, project-same}
+use Rattle.valid.specs.Removed.{Removed}
 use Rattle.gate.specs.Plain.{Call, step, withdraw, take-back, taken-back, In, insert, Eligible, Refusal, Removable, undeclared, was-taken-back, IsTangled, place, PlainCall, step-refused, step-tangled, step-kept, withdraw-refused, withdraws, take-back-refused, takes-back, not-declared as plain-not-declared, was-withdrawn as plain-was-withdrawn, all-kept as plain-all-kept}
-use Rattle.gate.specs.Gate.{book-of, state-of, Removed, Sound, opening-answer, opened-book, OpenedAs, SoundCall, CalledAs, on-sound, on-damaged}
+use Rattle.gate.specs.Gate.{book-of, state-of, Sound, opening-answer, opened-book, OpenedAs, SoundCall, CalledAs, on-sound, on-damaged}
 use Rattle.gate.specs.inner.Calls.{EligibleIn, RefusalIn, not-declared, was-withdrawn, all-kept, EligibilityIn, StepLeft}
 use Rattle.gate.specs.declared.Gate.{Gate}
 use Rattle.gate.specs.declared.Reply.{Reply}
@@ -280,34 +280,6 @@ module _ (g : Gate) (r i : ℕ) (y : Sound g) (e : i ≡ r) where
       }
 
 -- ---- any record
-
--- the test of the runs taken back, up to run n
-pub record RemovedTo (taken flags counts : List ℕ) (n : ℕ) : Type 0 where
-  pub withdrawn : (r : ℕ) → r < n → ¬ (getD taken r 0 ≡ 0) → ¬ (getD flags r 0 ≡ 0)
-  pub no-step : (r : ℕ) → r < n → ¬ (getD taken r 0 ≡ 0) → getD counts r 0 ≡ 0
-
-module _ (taken flags counts : List ℕ) where
-  pub removed-none : RemovedTo taken flags counts 0
-  removed-none = record { withdrawn = λ r l. absurd (not-suc-le-zero l); no-step = λ r l. absurd (not-suc-le-zero l) }
-
-  module _ (n : ℕ) (w : RemovedTo taken flags counts n) where
-    pub removed-more : ¬ (getD flags n 0 ≡ 0) → getD counts n 0 ≡ 0 → RemovedTo taken flags counts (n + 1)
-    removed-more f z = record { withdrawn = below-more _ n (w .withdrawn) (λ t. f); no-step = below-more _ n (w .no-step) (λ t. z) }
-
-    pub not-taken-back : getD taken n 0 ≡ 0 → RemovedTo taken flags counts (n + 1)
-    not-taken-back z = record { withdrawn = below-more _ n (w .withdrawn) (λ t. absurd (t z)); no-step = below-more _ n (w .no-step) (λ t. absurd (t z)) }
-
-    pub removed-all : length taken ≡ run-limit → run-limit ≤ n → Answers (Removed taken flags counts) true
-    removed-all e l = answer-yes (record { withdrawn = λ r t. w .withdrawn r (inside r t) t; no-step = λ r t. w .no-step r (inside r t) t })
-      where
-        inside : (r : ℕ) → ¬ (getD taken r 0 ≡ 0) → r < n
-        inside r t = omega (arith, getD-inside taken r (omega (arith, t)))
-
-    pub not-withdrawn : ¬ (getD taken n 0 ≡ 0) → getD flags n 0 ≡ 0 → Answers (Removed taken flags counts) false
-    not-withdrawn t z = answer-no (λ v. v .withdrawn n t z)
-
-    pub step-kept-of-it : ¬ (getD taken n 0 ≡ 0) → ¬ (getD counts n 0 ≡ 0) → Answers (Removed taken flags counts) false
-    step-kept-of-it t f = answer-no (λ v. f (v .no-step n t))
 
 module _ (g : Gate) (p q s : Bool) (v : Answers (Flags run-limit (g .withdrawn)) p) (w : Answers (Flags run-limit (g .«taken_back»)) q)
     (x : Answers (Removed (g .«taken_back») (g .withdrawn) (g .book .counts)) s) where

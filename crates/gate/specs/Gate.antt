@@ -1,14 +1,13 @@
 -- What the gate's record means, and what opening and the calls promise (document 01, "Plain gate"; document 02, change 7).
-use Prim.Native.Nat.{ℕ}
 use mathlib.Core.Path.{_≡_}
-use mathlib.Core.List.{List, []}
-use lib.ListN.{getD}
+use mathlib.Core.List.{[]}
 use Rattle.book.specs.Format.{Contents, Outcome, run-limit, nothing, refused as book-refused, accepted as book-accepted, with-history}
 use Rattle.book.specs.Numbers.{number, Numbers, refused-with, value-of}
 use Rattle.book.specs.Book.{flagged, contents-of, Flags, Valid}
 use Rattle.book.specs.declared.Cause.the-variants.{Damaged}
 use Rattle.book.specs.declared.Answer.{Answer as BookAnswer}
 use Rattle.book.specs.declared.Answer.the-variants.{Refused as BookRefused, Accepted as BookAccepted}
+use Rattle.valid.specs.Removed.{Removed}
 use Rattle.gate.specs.Plain.{Call, Answer, place, withdrawn, taken-back, refused, State, newly-opened, PlainCall}
 use Rattle.gate.specs.declared.Reply.{Reply}
 use Rattle.gate.specs.declared.Reply.the-variants.{Place, Withdrawn, TakenBack, Refused}
@@ -36,11 +35,6 @@ book-of g = with-history (contents-of (g .book)) []
 -- the record's kept list is the history of its book; its withdrawn runs and those taken back are those whose flag is not 0
 abbrev pub state-of : Gate → State
 state-of g = record { kept = contents-of (g .book) .history; withdrawn = flagged 0 (g .withdrawn); taken-back = flagged 0 (g .«taken_back») }
-
--- each run taken back is withdrawn, and no step of it is kept; by the flags of the runs taken back and of the withdrawn ones, and the counts of kept steps
-pub record Removed (taken flags counts : List ℕ) : Type 0 where
-  pub withdrawn : (r : ℕ) → ¬ (getD taken r 0 ≡ 0) → ¬ (getD flags r 0 ≡ 0)
-  pub no-step : (r : ℕ) → ¬ (getD taken r 0 ≡ 0) → getD counts r 0 ≡ 0
 
 -- the tables have their ranges and agree with each other; so it is of every record that opening hands back, and that a call leaves of such a one
 pub record Sound (g : Gate) : Type 0 where

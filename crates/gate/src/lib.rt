@@ -5,7 +5,7 @@ ghost use Rattle.theory.specs.Answers.{Answers};
 ghost use Rattle.book.specs.Format.{run-limit, done, effect, read};
 ghost use Rattle.book.specs.Book.{Represents, contents-of};
 ghost use Rattle.gate.specs.Plain.{step as step-call, withdraw as withdraw-call, take-back as take-back-call};
-ghost use Rattle.gate.specs.Gate.{Removed, Sound, SoundCall, OpenedAs, CalledAs};
+ghost use Rattle.gate.specs.Gate.{Sound, SoundCall, OpenedAs, CalledAs};
 ghost use Rattle.gate.specs.Replay.{is-call, call-of, calls-of, bad-at, Replays};
 ghost use Rattle.gate.specs.inner.Calls.{EligibilityIn, StepLeft, Low, BytesOf, AnswersRoom, Plays};
 use book::Answer;
@@ -59,29 +59,6 @@ pub fn open(s: &[u8]) -> Opened
     }
 }
 
-// Whether each run taken back is withdrawn and has no step kept.
-fn are_removed(
-    taken: [u8; Book::RUNS],
-    withdrawn: [u8; Book::RUNS],
-    counts: [u8; Book::RUNS],
-) -> bool
-    ensures { λ r. ⌜ Answers (Removed taken withdrawn counts) r ⌝ }
-{
-    let mut r: usize = 0;
-    while r < Book::RUNS {
-        if taken[r] != 0 {
-            if withdrawn[r] == 0 {
-                return false;
-            }
-            if counts[r] != 0 {
-                return false;
-            }
-        }
-        r += 1;
-    }
-    true
-}
-
 // Whether the record's tables have their ranges and agree with each other.
 fn is_sound(g: Gate) -> bool
     ensures { λ r. ⌜ Answers (Sound g) r ⌝ }
@@ -91,7 +68,7 @@ fn is_sound(g: Gate) -> bool
     let flags = valid::are_flags(withdrawn) & valid::are_flags(taken_back);
     let b = g.book;
     let counts = b.counts;
-    if flags & are_removed(taken_back, withdrawn, counts) {
+    if flags & valid::are_removed(taken_back, withdrawn, counts) {
         return valid::is_valid(b);
     }
     false

@@ -1,4 +1,4 @@
--- The loops over a table: largest, sum, how often, and counts beside lengths.
+-- The loops over a table: largest, sum, how often, counts beside lengths, and runs taken back beside withdrawn ones and counts.
 use Prim.Native.Nat.{ℕ, _+_, _*_, _≤_, _<_}
 use mathlib.Core.Path.{_≡_, refl, sym, _∙_}
 use mathlib.Core.List.{List}
@@ -12,8 +12,10 @@ use lib.Seq.{take-all}
 use Rattle.theory.specs.Lists.{sum}
 use Rattle.theory.specs.History.{count}
 use Rattle.theory.specs.Answers.{Answers}
-use Rattle.theory.proofs.Lists.{sum-take, count-take-lt, count-take-ne}
+use Rattle.theory.proofs.Lists.{sum-take, count-take-lt, count-take-ne, getD-inside}
 use Rattle.theory.proofs.Answered.{answer-yes, answer-no}
+use Rattle.book.specs.Format.{run-limit}
+use Rattle.valid.specs.Removed.{Removed}
 use Rattle.valid.specs.inner.Tables.{Largest, CountsValid}
 
 -- ---- largest, largest_code
@@ -109,3 +111,33 @@ module _ (ls ns h : List ℕ) (k : ℕ) where
 
   pub counts-all : (r n : ℕ) → CountsValid ls ns h k r → n ≤ r → Answers (CountsValid ls ns h k n) true
   counts-all r n v l = answer-yes (record { counts = λ q g. v .counts q (omega arith); within = λ q g. v .within q (omega arith) })
+
+-- ---- are_removed
+
+-- the runs below n are tested
+pub record RemovedTo (taken flags counts : List ℕ) (n : ℕ) : Type 0 where
+  pub withdrawn : (r : ℕ) → r < n → ¬ (getD taken r 0 ≡ 0) → ¬ (getD flags r 0 ≡ 0)
+  pub no-step : (r : ℕ) → r < n → ¬ (getD taken r 0 ≡ 0) → getD counts r 0 ≡ 0
+
+module _ (taken flags counts : List ℕ) where
+  pub removed-none : RemovedTo taken flags counts 0
+  removed-none = record { withdrawn = λ r l. absurd (omega arith); no-step = λ r l. absurd (omega arith) }
+
+  module _ (n : ℕ) (w : RemovedTo taken flags counts n) where
+    pub removed-more : ¬ (getD flags n 0 ≡ 0) → getD counts n 0 ≡ 0 → RemovedTo taken flags counts (n + 1)
+    removed-more f z = record { withdrawn = below-more _ n (w .withdrawn) (λ t. f); no-step = below-more _ n (w .no-step) (λ t. z) }
+
+    pub not-taken-back : getD taken n 0 ≡ 0 → RemovedTo taken flags counts (n + 1)
+    not-taken-back z = record { withdrawn = below-more _ n (w .withdrawn) (λ t. absurd (t z)); no-step = below-more _ n (w .no-step) (λ t. absurd (t z)) }
+
+    pub removed-all : length taken ≡ run-limit → run-limit ≤ n → Answers (Removed taken flags counts) true
+    removed-all e l = answer-yes (record { withdrawn = λ r t. w .withdrawn r (inside r t) t; no-step = λ r t. w .no-step r (inside r t) t })
+      where
+        inside : (r : ℕ) → ¬ (getD taken r 0 ≡ 0) → r < n
+        inside r t = omega (arith, getD-inside taken r (omega (arith, t)))
+
+    pub not-withdrawn : ¬ (getD taken n 0 ≡ 0) → getD flags n 0 ≡ 0 → Answers (Removed taken flags counts) false
+    not-withdrawn t z = answer-no (λ v. v .withdrawn n t z)
+
+    pub step-kept-of-it : ¬ (getD taken n 0 ≡ 0) → ¬ (getD counts n 0 ≡ 0) → Answers (Removed taken flags counts) false
+    step-kept-of-it t f = answer-no (λ v. f (v .no-step n t))

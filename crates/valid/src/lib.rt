@@ -1,4 +1,4 @@
-// Whether the tables of a book, of any bytes, are those of a valid one.
+// Whether the tables of a book, of any bytes, are those of a valid one, and whether those of a gate agree about its runs taken back.
 use book::Book;
 ghost use mathlib.Core.Path.{_≡_};
 ghost use Prim.Native.Nat.{_≤_};
@@ -8,6 +8,7 @@ ghost use Rattle.theory.specs.Lists.{sum};
 ghost use Rattle.theory.specs.History.{count};
 ghost use Rattle.book.specs.Format.{run-limit, step-limit};
 ghost use Rattle.book.specs.Book.{code-limit, Flags, Column, RunsValid, Valid};
+ghost use Rattle.valid.specs.Removed.{Removed};
 ghost use Rattle.valid.specs.inner.Tables.{Largest, CountsValid, HistoryWithin};
 
 // The largest of the bytes from `start` on; 0 where there are none.
@@ -162,4 +163,27 @@ pub fn is_valid(b: Book) -> bool
     let flags = flags_in(&b.pairs) & flags_in(&b.cuts);
     let runs = runs_valid(&b.lengths, &b.steps, b.declared, b.total);
     flags & runs & history_valid(&b.lengths, &b.counts, &b.history, b.done)
+}
+
+// Whether each run taken back is withdrawn and has no step kept.
+pub fn are_removed(
+    taken: [u8; Book::RUNS],
+    withdrawn: [u8; Book::RUNS],
+    counts: [u8; Book::RUNS],
+) -> bool
+    ensures { λ r. ⌜ Answers (Removed taken withdrawn counts) r ⌝ }
+{
+    let mut r: usize = 0;
+    while r < Book::RUNS {
+        if taken[r] != 0 {
+            if withdrawn[r] == 0 {
+                return false;
+            }
+            if counts[r] != 0 {
+                return false;
+            }
+        }
+        r += 1;
+    }
+    true
 }

@@ -2,10 +2,10 @@
 use Prim.Native.Nat.{_-_}
 use mathlib.Core.Logic.{⊎-elim}
 use Rattle.book.specs.Format.{run-limit}
-use Rattle.gate.proofs.Records.{RemovedTo, removed-none, removed-more, not-taken-back, removed-all, not-withdrawn, step-kept-of-it}
+use Rattle.valid.proofs.Scans.{RemovedTo, removed-none, removed-more, not-taken-back, removed-all, not-withdrawn, step-kept-of-it}
 use borrow.Author.Needs.{needs}
-use Rattle.gate.proofs.are_removed.Statement.{statement}
-use Rattle.gate.proofs.are_removed.Tie as tie
+use Rattle.valid.proofs.are_removed.Statement.{statement}
+use Rattle.valid.proofs.are_removed.Tie as tie
 
 abbrev Inv-loop : tie.InvT-loop
 Inv-loop taken withdrawn counts r₀ r = RemovedTo taken withdrawn counts r
