@@ -261,16 +261,18 @@ pub fn write(book: &[u8]) -> Result<Vec<u8>, Refusal> {
     Ok(out)
 }
 
-/// A call to the gate.
+/// A call to the gate. Changes of the gate add to these.
 #[derive(Clone, Copy, Debug, PartialEq, Eq)]
+#[non_exhaustive]
 pub enum Call {
     Step(u8),
     Withdraw(u8),
     TakeBack(u8),
 }
 
-/// What the gate answers.
+/// What the gate answers. Changes of the gate add to these.
 #[derive(Clone, Copy, Debug, PartialEq, Eq)]
+#[non_exhaustive]
 pub enum Reply {
     /// The place of an admitted step.
     Place(u8),

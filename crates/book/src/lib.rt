@@ -294,7 +294,7 @@ pub fn with_history(mut b: Book, list: &[u8]) -> Book
 }
 
 // The book whose history lacks the steps of the runs whose flag in `out` is not 0; the others stay in order.
-pub fn without_runs(mut b: Book, out: [u8; Book::RUNS]) -> Book
+pub fn leave_out(mut b: Book, out: [u8; Book::RUNS]) -> Book
     requires { ⌜ Valid b ⌝ }
     ensures { λ r. ⌜ Represents (with-history (contents-of b) (project (unflagged out) (contents-of b .history))) r ⌝ }
 {

@@ -47,7 +47,7 @@ use Rattle.gate.proofs.Unchanged.{refused-unchanged}
 use Rattle.gate.proofs.Replays.{whole-calls}
 use Rattle.report.specs.Text.{Findings, Report, refused-at, accepted-with, text-of}
 use Rattle.report.specs.Reporting.{ReportOn, Reports}
-use Rattle.claims.specs.Table.{BookRow, NoRow, JudgeRow, order-under-128, cycle-under-128, judged-book, WriterRow, written-book, shorter-than-the-book, run-called, StepsOrWithdraws, steps, withdraws as withdraws-run, GateRow, row-20, row-21, row-22, row-23, row-26, row-32, NoCallAt, cut-off, none-of-them, behind-53, behind-57, behind-54, ReplayRow, replayed-book, no-call, answers-short}
+use Rattle.claims.specs.Table.{BookRow, NoRow, JudgeRow, order-under-128, cycle-under-128, judged-book, WriterRow, written-book, shorter-than-the-book, run-called, StepsOrWithdraws, is-step, is-withdrawal, GateRow, row-20, row-21, row-22, row-23, row-26, row-32, NoCallAt, cut-off, none-of-them, behind-53, behind-57, behind-54, ReplayRow, replayed-book, no-call, answers-short}
 use Rattle.claims.specs.Demands.{TurnsAway, BuffersUnchanged, AnswersUnchanged, WithoutRuns, Demand1}
 use Rattle.claims.proofs.Table.{refused-row, row-refused, row-numbered, row-single, accepted-no-row}
 use Rattle.claims.proofs.EachNumber.{each-number}
@@ -209,10 +209,10 @@ module _ (g : Gate) (y : Sound g) where
   row-rule (step r) (row-20 z d) = (step-refused (not-declared d), refl)
   row-rule (withdraw r) (row-20 z d) = (withdraw-refused (not-declared d), refl)
   row-rule (take-back r) (row-20 z d) = (take-back-refused (undeclared d), refl)
-  row-rule (step r) (row-21 z steps d w) = (step-refused (was-withdrawn d w), refl)
-  row-rule (withdraw r) (row-21 z withdraws-run d w) = (withdraw-refused (was-withdrawn d w), refl)
-  row-rule (step r) (row-22 z steps d w l) = (step-refused (all-kept d w l), refl)
-  row-rule (withdraw r) (row-22 z withdraws-run d w l) = (withdraw-refused (all-kept d w l), refl)
+  row-rule (step r) (row-21 z is-step d w) = (step-refused (was-withdrawn d w), refl)
+  row-rule (withdraw r) (row-21 z is-withdrawal d w) = (withdraw-refused (was-withdrawn d w), refl)
+  row-rule (step r) (row-22 z is-step d w l) = (step-refused (all-kept d w l), refl)
+  row-rule (withdraw r) (row-22 z is-withdrawal d w l) = (withdraw-refused (all-kept d w l), refl)
   row-rule (step r) (row-23 z e t) = (step-tangled e t, refl)
   row-rule (take-back r) (row-32 z d w) = (take-back-refused (was-taken-back d w), refl)
   row-rule x (row-26 n) = absurd (n y)
@@ -228,10 +228,10 @@ module _ (g : Gate) (y : Sound g) where
   removal-row r (was-taken-back d w) = row-32 y d w
 
   rule-row : {x : Call} {a : Answer} {h : State} (n : ℕ) → PlainCall (book-of g) (state-of g) x a h → a ≡ refused-by-number n → GateRow g x n 0
-  rule-row {x} n (step-refused {r = r} {cause = cause} p) e = let q : number cause ≡ n = cc in subst (λ (k : ℕ). GateRow g x k 0) q (refusal-row x r refl steps p)
+  rule-row {x} n (step-refused {r = r} {cause = cause} p) e = let q : number cause ≡ n = cc in subst (λ (k : ℕ). GateRow g x k 0) q (refusal-row x r refl is-step p)
   rule-row {x} n (step-tangled p t) e = let q : 23 ≡ n = cc in subst (λ (k : ℕ). GateRow g x k 0) q (row-23 y p t)
   rule-row n (step-kept p t) e = let z : _≡_ {A = ℕ} 0 1 = cc in absurd (omega arith)
-  rule-row {x} n (withdraw-refused {r = r} {cause = cause} p) e = let q : number cause ≡ n = cc in subst (λ (k : ℕ). GateRow g x k 0) q (refusal-row x r refl withdraws-run p)
+  rule-row {x} n (withdraw-refused {r = r} {cause = cause} p) e = let q : number cause ≡ n = cc in subst (λ (k : ℕ). GateRow g x k 0) q (refusal-row x r refl is-withdrawal p)
   rule-row n (withdraws p) e = let z : _≡_ {A = ℕ} 0 1 = cc in absurd (omega arith)
   rule-row {x} n (take-back-refused {r = r} {cause = cause} p) e = let q : number cause ≡ n = cc in subst (λ (k : ℕ). GateRow g x k 0) q (removal-row r p)
   rule-row n (takes-back p) e = let z : _≡_ {A = ℕ} 0 1 = cc in absurd (omega arith)

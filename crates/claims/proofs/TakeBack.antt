@@ -25,9 +25,9 @@ use Rattle.gate.proofs.Unchanged.{refused-unchanged}
 use Rattle.capi.specs.Numbers.{answered}
 use Rattle.capi.specs.Calls.{GateCall}
 use Rattle.capi.specs.declared.Answered.{Answered}
-use Rattle.claims.specs.Table.{StepsOrWithdraws, steps, withdraws as withdraws-run}
+use Rattle.claims.specs.Table.{StepsOrWithdraws, is-step, is-withdrawal}
 use Rattle.claims.specs.Lazy.{book-2}
-use Rattle.claims.specs.TakeBack.{WithoutRun, tangled-calls, TakeBacks}
+use Rattle.claims.specs.TakeBack.{RunRemoved, tangled-calls, TakeBacks}
 use Rattle.claims.proofs.Determined.{reply-of, reply-back}
 use Rattle.claims.proofs.Lazy.{Serializable, row-2-serializable, row-4-not-serializable, row-5-serializable, start-1-serializable, start-2-serializable, after-1, after-2, after-3, kept-step}
 
@@ -42,7 +42,7 @@ other-run r q w n = let e = count-insert-other r q w (λ p. n (sym p)) in (λ i.
 
 module _ (g h : Gate) (r : ℕ) (y : Sound g) (d : r < length (book-of g .runs)) (n : ¬ In r (state-of g .taken-back)) (a : Reply) (w : CalledAs g (take-back r) a h) where
   rule : PlainCall (book-of g) (state-of g) (take-back r) taken-back (remove (state-of g) r)
-  rule = takes-back (record { declared = d; present = n })
+  rule = takes-back (record { declared = d; not-taken-back = n })
 
   answer : a ≡ TakenBack
   answer = reply-is a TakenBack (single (book-of g) (state-of g) (sound-call y w .plain) rule .answers)
@@ -59,20 +59,20 @@ module _ (g h : Gate) (r : ℕ) (y : Sound g) (d : r < length (book-of g .runs))
   taken-is : state-of h .taken-back ≡ insert r (state-of g .taken-back)
   taken-is = ap (λ (s : State). s .taken-back) left
 
-  without-run : WithoutRun r g h
-  without-run = record {
+  run-removed : RunRemoved r g h
+  run-removed = record {
     steps-leave = rw kept-is (count-left-out (but r) r (rw (eq-eqb r r refl)) (state-of g .kept));
     others-stay = kept-is;
     withdrawn = rw withdrawn-is (in-insert r (state-of g .withdrawn));
-    taken = rw taken-is (in-insert r (state-of g .taken-back));
+    taken-back = rw taken-is (in-insert r (state-of g .taken-back));
     others-withdrawn = λ q o. rw withdrawn-is (other-run r q (state-of g .withdrawn) o);
-    others-taken = λ q o. rw taken-is (other-run r q (state-of g .taken-back) o);
+    others-taken-back = λ q o. rw taken-is (other-run r q (state-of g .taken-back) o);
     book = sound-call y w .book;
   }
 
 deck-answer : (g h : Gate) (r : ℕ) (x : Answered) → Sound g → r < length (book-of g .runs) → ¬ In r (state-of g .taken-back) → GateCall (take-back r) g h x
-    → (x ≡ answered (value-of 0)) × WithoutRun r g h
-deck-answer g h r x y d n w = (w .numbers ∙ rw (answer g h r y d n (w .reply) (w .promise)), without-run g h r y d n (w .reply) (w .promise))
+    → (x ≡ answered (value-of 0)) × RunRemoved r g h
+deck-answer g h r x y d n w = (w .numbers ∙ rw (answer g h r y d n (w .reply) (w .promise)), run-removed g h r y d n (w .reply) (w .promise))
 
 -- ---- runs that were taken back
 
@@ -101,11 +101,11 @@ module _ (c : Contents) (g g′ : State) (k : g′ .kept ≡ g .kept) (v : g′ 
 
   by-them : (h : State) (x : Call) (a : Answer) (r : ℕ) → StepsOrWithdraws r x → PlainCall c g x a h
       → PlainCall c g′ x a (record { kept = h .kept; withdrawn = h .withdrawn; taken-back = g′ .taken-back })
-  by-them h x a r steps (step-refused p) = rw (← k, ← v) (step-refused (refusal p))
-  by-them h x a r steps (step-tangled e t) = rw (← k, ← v) (step-tangled (eligible e) (rw k t))
-  by-them h x a r steps (step-kept e t) = rw (← k, ← v) (step-kept (eligible e) (rw k t))
-  by-them h x a r withdraws-run (withdraw-refused p) = rw (← k, ← v) (withdraw-refused (refusal p))
-  by-them h x a r withdraws-run (withdraws e) = rw (← k, ← v) (withdraws (eligible e))
+  by-them h x a r is-step (step-refused p) = rw (← k, ← v) (step-refused (refusal p))
+  by-them h x a r is-step (step-tangled e t) = rw (← k, ← v) (step-tangled (eligible e) (rw k t))
+  by-them h x a r is-step (step-kept e t) = rw (← k, ← v) (step-kept (eligible e) (rw k t))
+  by-them h x a r is-withdrawal (withdraw-refused p) = rw (← k, ← v) (withdraw-refused (refusal p))
+  by-them h x a r is-withdrawal (withdraws e) = rw (← k, ← v) (withdraws (eligible e))
 
 -- ---- the example
 
@@ -122,7 +122,7 @@ module _ (h : List ℕ) where
 
   taken-back-1 : PlainCall (book-2 h) after-3 (take-back 1) taken-back removed-1
   unfolding project
-  taken-back-1 = takes-back {r = 1} (record { declared = omega arith; present = λ i. omega arith })
+  taken-back-1 = takes-back {r = 1} (record { declared = omega arith; not-taken-back = λ i. omega arith })
 
   example : PlainCalls (book-2 h) newly-opened tangled-calls (place 0 ∷ place 1 ∷ place 2 ∷ refused 23 ∷ taken-back ∷ place 1 ∷ []) (keep removed-1 0)
   example =
@@ -137,7 +137,7 @@ module _ (h : List ℕ) where
 
 pub take-backs : TakeBacks
 take-backs = record {
-  answered-so = λ g h r a y d n w. (answer g h r y d n a w, without-run g h r y d n a w);
+  answered-so = λ g h r a y d n w. (answer g h r y d n a w, run-removed g h r y d n a w);
   deck-answered-so = deck-answer;
   out = out;
   later-steps = λ g h r a y d i w. later-step g r y i h a d w;

@@ -133,8 +133,8 @@ run-called (take-back-call r) = r
 
 -- the call steps or withdraws run r
 pub data StepsOrWithdraws (r : ℕ) : Call → Type 0 where
-  steps : StepsOrWithdraws r (step-call r)
-  withdraws : StepsOrWithdraws r (withdraw-call r)
+  is-step : StepsOrWithdraws r (step-call r)
+  is-withdrawal : StepsOrWithdraws r (withdraw-call r)
 
 -- step, withdraw and take back on a record: 26 comes first, then 20; then for a step or a withdrawal 21, 22 and, for a step, 23; for a take-back 32
 pub data GateRow (g : Gate) : Call → ℕ → ℕ → Type 0 where

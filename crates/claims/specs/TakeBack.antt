@@ -22,17 +22,17 @@ use Rattle.claims.specs.Table.{StepsOrWithdraws}
 use Rattle.claims.specs.Lazy.{book-2}
 
 -- what the take-back of run r leaves: the record was g, and is h
-pub record WithoutRun (r : ℕ) (g h : Gate) : Type 0 where
+pub record RunRemoved (r : ℕ) (g h : Gate) : Type 0 where
   -- Its steps leave the kept list,
   pub steps-leave : count (state-of h .kept) r ≡ 0
   -- the others stay in order,
   pub others-stay : state-of h .kept ≡ project (but r) (state-of g .kept)
   -- r is withdrawn, and the record holds that it was taken back;
   pub withdrawn : In r (state-of h .withdrawn)
-  pub taken : In r (state-of h .taken-back)
+  pub taken-back : In r (state-of h .taken-back)
   -- no other run is withdrawn or taken back by it, and the book is the same.
   pub others-withdrawn : (q : ℕ) → q ≢ r → In q (state-of h .withdrawn) ↔ In q (state-of g .withdrawn)
-  pub others-taken : (q : ℕ) → q ≢ r → In q (state-of h .taken-back) ↔ In q (state-of g .taken-back)
+  pub others-taken-back : (q : ℕ) → q ≢ r → In q (state-of h .taken-back) ↔ In q (state-of g .taken-back)
   pub book : book-of h ≡ book-of g
 
 -- step 0, 1, 1, 0; take back 1; step 0
@@ -42,9 +42,9 @@ tangled-calls = step 0 ∷ step 1 ∷ step 1 ∷ step 0 ∷ take-back 1 ∷ step
 pub record TakeBacks : Type 0 where
   -- The call takes back run r, and the answer is "taken back", of every run that is declared and was not taken back: of withdrawn and completed ones too.
   pub answered-so : (g h : Gate) (r : ℕ) (a : Reply) → Sound g → r < length (book-of g .runs) → ¬ In r (state-of g .taken-back) → CalledAs g (take-back r) a h
-      → (a ≡ TakenBack) × WithoutRun r g h
+      → (a ≡ TakenBack) × RunRemoved r g h
   pub deck-answered-so : (g h : Gate) (r : ℕ) (n : Answered) → Sound g → r < length (book-of g .runs) → ¬ In r (state-of g .taken-back) → GateCall (take-back r) g h n
-      → (n ≡ answered (value-of 0)) × WithoutRun r g h
+      → (n ≡ answered (value-of 0)) × RunRemoved r g h
   -- On every sound record a run taken back is withdrawn and has no step kept; its later steps are refused by 21.
   pub out : (g : Gate) (r : ℕ) → Sound g → In r (state-of g .taken-back) → In r (state-of g .withdrawn) × (count (state-of g .kept) r ≡ 0)
   pub later-steps : (g h : Gate) (r : ℕ) (a : Reply) → Sound g → r < length (book-of g .runs) → In r (state-of g .taken-back) → CalledAs g (step r) a h

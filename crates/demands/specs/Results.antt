@@ -1,5 +1,5 @@
--- The demands, that the classes are nested, the names of arcs, and the one pass over a history, of what the functions of this crate return or leave in the
--- tables lent to them: the results of the public calls, or answers as these promise them.
+-- The demands, that the classes are nested, the names of arcs, the one pass over a history, and a run taken back, of what the functions of this crate return
+-- or leave in the tables lent to them: the results of the public calls, or answers as these promise them.
 use Prim.Native.Nat.{ℕ, _*_, _/_, _≤_, _<_}
 use mathlib.Core.Path.{_≡_}
 use mathlib.Core.Bool.{Bool, true, false}
@@ -35,7 +35,7 @@ use Rattle.claims.specs.Table.{BookRow, NoRow, JudgeRow, WriterRow, GateRow, Re
 use Rattle.claims.specs.Demands.{TurnsAway, BuffersUnchanged, WithoutRuns, answered-numbers, judged-numbers, opened-numbers, Demand2}
 use Rattle.claims.specs.Classes.{OtherCuts, JudgeAnswered, ClassesAnswered, DeckJudgeAnswered, DeckClassesAnswered, SaysYes, SaysPassed, TextSaysPassed, NestedCalls, NestedDeckCalls, NestedFindings}
 use Rattle.claims.specs.ArcsByName.{AllThatHold, ArcsUnder}
-use Rattle.claims.specs.TakeBack.{WithoutRun}
+use Rattle.claims.specs.TakeBack.{RunRemoved}
 use Rattle.demands.specs.declared.BookAnswers.{BookAnswers}
 use Rattle.demands.specs.declared.DeckCalled.{DeckCalled}
 use Rattle.demands.specs.declared.ClassAnswers.{ClassAnswers}
@@ -146,4 +146,4 @@ pub record TextLettered (s before after : List ℕ) (n : ℕ) : Type 0 where
 -- refused as the table says; else, of a sound record g, a declared run that was not taken back leaves the kept list
 pub record TakenBackAs (g : Gate) (run : ℕ) (r : DeckCalled) : Type 0 where
   pub refusals : TurnsAway (GateRow g (take-back run)) (answered-numbers (r .answer)) (r .gate ≡ g)
-  pub removed : Sound g → run < length (book-of g .runs) → ¬ In run (state-of g .taken-back) → (r .answer ≡ answered (value-of 0)) × WithoutRun run g (r .gate)
+  pub removed : Sound g → run < length (book-of g .runs) → ¬ In run (state-of g .taken-back) → (r .answer ≡ answered (value-of 0)) × RunRemoved run g (r .gate)

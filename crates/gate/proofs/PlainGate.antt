@@ -40,7 +40,7 @@ module _ (c : Contents) (g : State) where
 
   not-removable : {r : ℕ} {cause : Cause} → RemovalRefusal c g r cause → Removable c g r → ⊥
   not-removable (undeclared h) e = omega (arith, e .declared)
-  not-removable (was-taken-back h w) e = e .present w
+  not-removable (was-taken-back h w) e = e .not-taken-back w
 
   one-removal-cause : {r : ℕ} {a b : Cause} → RemovalRefusal c g r a → RemovalRefusal c g r b → a ≡ b
   one-removal-cause (undeclared h) (undeclared i) = refl
@@ -141,4 +141,4 @@ module _ (c : Contents) where
       go (withdraw-refused p) = withdraw-refused (refusal p)
       go (withdraws e) = withdraws (eligible e)
       go (take-back-refused p) = take-back-refused (removal p)
-      go (takes-back e) = takes-back (record { declared = e .declared; present = e .present })
+      go (takes-back e) = takes-back (record { declared = e .declared; not-taken-back = e .not-taken-back })

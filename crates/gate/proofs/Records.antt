@@ -63,12 +63,12 @@ opened-as o r b w m = record {
   sound = record {
     valid = m .valid;
     flags = no-flags;
-    taken-flags = no-flags;
+    taken-back-flags = no-flags;
     removed = record { withdrawn = λ r n. absurd (n (getD-zeros run-limit r)); no-step = λ r n. absurd (n (getD-zeros run-limit r)) };
   };
 }
 
--- ---- the withdrawn runs are the flagged flags
+-- ---- the withdrawn runs, and those taken back, are those whose flag is set
 
 pub flagged-in : (xs : List ℕ) (r : ℕ) → ¬ (getD xs r 0 ≡ 0) → In r (flagged 0 xs)
 flagged-in xs r n = omega (arith, rw (ne-eqb (getD xs r 0) 0 n) at (count-flagged xs r))
@@ -200,7 +200,7 @@ module _ (g : Gate) (r i : ℕ) (y : Sound g) (e : i ≡ r) where
         sound = record {
           valid = y .valid;
           flags = flags-set run-limit (g .withdrawn) i (y .flags);
-          taken-flags = y .taken-flags;
+          taken-back-flags = y .taken-back-flags;
           removed = record { withdrawn = λ x n. flag-stays (g .withdrawn) i x (y .removed .withdrawn x n); no-step = y .removed .no-step };
         };
       }
@@ -223,7 +223,7 @@ module _ (g : Gate) (r i : ℕ) (y : Sound g) (e : i ≡ r) where
           sound = record {
             valid = m .valid;
             flags = y .flags;
-            taken-flags = y .taken-flags;
+            taken-back-flags = y .taken-back-flags;
             removed = record { withdrawn = y .removed .withdrawn; no-step = no-step-kept };
           };
         }
@@ -251,7 +251,7 @@ module _ (g : Gate) (r i : ℕ) (y : Sound g) (e : i ≡ r) where
       others = rw (m .contents, e) (project-same _ _ (unflagged-but r (rw e at removal-low)) (contents-of (g .book) .history))
 
       may-remove : Removable (book-of g) (state-of g) r
-      may-remove = record { declared = declared-in g r i y e h; present = flagged-out (g .«taken_back») r (rw e at z) }
+      may-remove = record { declared = declared-in g r i y e h; not-taken-back = flagged-out (g .«taken_back») r (rw e at z) }
 
       -- a run that is taken back now or was before
       gone : (x : ℕ) → ¬ (getD (set (g .«taken_back») i 1) x 0 ≡ 0) → Dec (x ≡ i) → ¬ (getD (set (g .withdrawn) i 1) x 0 ≡ 0) × (getD (b .counts) x 0 ≡ 0)
@@ -269,12 +269,12 @@ module _ (g : Gate) (r i : ℕ) (y : Sound g) (e : i ≡ r) where
 
       pub take-back-done : SoundCall g (take-back r) TakenBack (record { book = b; withdrawn = set (g .withdrawn) i 1; «taken_back» = set (g .«taken_back») i 1 })
       take-back-done = record {
-        plain = rw (others, flag-joins (g .withdrawn) r i e (y .flags) removal-low, flag-joins (g .«taken_back») r i e (y .taken-flags) removal-low) (takes-back may-remove);
+        plain = rw (others, flag-joins (g .withdrawn) r i e (y .flags) removal-low, flag-joins (g .«taken_back») r i e (y .taken-back-flags) removal-low) (takes-back may-remove);
         book = rw (m .contents);
         sound = record {
           valid = m .valid;
           flags = flags-set run-limit (g .withdrawn) i (y .flags);
-          taken-flags = flags-set run-limit (g .«taken_back») i (y .taken-flags);
+          taken-back-flags = flags-set run-limit (g .«taken_back») i (y .taken-back-flags);
           removed = record { withdrawn = λ x n. gone x n (ℕ-discrete x i) .0; no-step = λ x n. gone x n (ℕ-discrete x i) .1 };
         };
       }
@@ -283,16 +283,16 @@ module _ (g : Gate) (r i : ℕ) (y : Sound g) (e : i ≡ r) where
 
 module _ (g : Gate) (p q s : Bool) (v : Answers (Flags run-limit (g .withdrawn)) p) (w : Answers (Flags run-limit (g .«taken_back»)) q)
     (x : Answers (Removed (g .«taken_back») (g .withdrawn) (g .book .counts)) s) where
-  flags-answer : Answers ((Flags run-limit (g .withdrawn) × Flags run-limit (g .«taken_back»)) × Removed (g .«taken_back») (g .withdrawn) (g .book .counts)) (p && q && s)
-  flags-answer = answer-both (p && q) s (answer-both p q v (λ a. w)) (λ a. x)
+  tables-answer : Answers ((Flags run-limit (g .withdrawn) × Flags run-limit (g .«taken_back»)) × Removed (g .«taken_back») (g .withdrawn) (g .book .counts)) (p && q && s)
+  tables-answer = answer-both (p && q) s (answer-both p q v (λ a. w)) (λ a. x)
 
   pub flags-fail : (p && q && s) ≡ false → Answers (Sound g) false
-  flags-fail e = answer-no (λ y. refute flags-answer e ((y .flags, y .taken-flags), y .removed))
+  flags-fail e = answer-no (λ y. refute tables-answer e ((y .flags, y .taken-back-flags), y .removed))
 
   pub book-tells : (p && q && s) ≡ true → (b : Bool) → Answers (Valid (g .book)) b → Answers (Sound g) b
   book-tells e b a =
-      let f = flags-answer .sound e in
-      record { sound = λ t. record { valid = a .sound t; flags = f .0 .0; taken-flags = f .0 .1; removed = f .1 }; complete = λ y. a .complete (y .valid) }
+      let f = tables-answer .sound e in
+      record { sound = λ t. record { valid = a .sound t; flags = f .0 .0; taken-back-flags = f .0 .1; removed = f .1 }; complete = λ y. a .complete (y .valid) }
 
 pub tested-sound : (g : Gate) (ok : Bool) → Answers (Sound g) ok → ok ≡ true → Sound g
 tested-sound g ok p e = p .sound e

@@ -52,7 +52,7 @@ module _ (c : Contents) (g : State) where
       go : Dec (r < length (c .runs)) → Dec (In r (g .taken-back)) → Made (take-back r)
       go (no d) w = record { answer = _; state = _; rule = take-back-refused {r = r} (undeclared (omega (arith, d))) }
       go (yes d) (yes w) = record { answer = _; state = _; rule = take-back-refused {r = r} (was-taken-back d w) }
-      go (yes d) (no n) = record { answer = _; state = _; rule = takes-back (record { declared = d; present = n }) }
+      go (yes d) (no n) = record { answer = _; state = _; rule = takes-back (record { declared = d; not-taken-back = n }) }
 
 pub record AllMade (c : Contents) (g : State) (xs : List Call) : Type 0 where
   pub answers : List Answer

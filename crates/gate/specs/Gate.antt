@@ -40,7 +40,7 @@ state-of g = record { kept = contents-of (g .book) .history; withdrawn = flagged
 pub record Sound (g : Gate) : Type 0 where
   pub valid : Valid (g .book)
   pub flags : Flags run-limit (g .withdrawn)
-  pub taken-flags : Flags run-limit (g .«taken_back»)
+  pub taken-back-flags : Flags run-limit (g .«taken_back»)
   pub removed : Removed (g .«taken_back») (g .withdrawn) (g .book .counts)
 
 -- opening is refused with cause and place as reading is, and then hands back the gate of a book without runs

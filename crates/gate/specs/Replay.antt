@@ -46,7 +46,7 @@ abbrev pub answers-bytes : List Answer → List ℕ
 answers-bytes [] = []
 answers-bytes (a ∷ bs) = answer-bytes a ++ answers-bytes bs
 
--- the answers that bytes stand for
+-- the answers that bytes stand for; of two bytes that are no answer's, any. `answers-bytes` says which bytes an answer has
 abbrev pub answer-in : ℕ → ℕ → Answer
 answer-in k x = pick (eqb k 0) (place x) (pick (eqb k 1) withdrawn (pick (eqb k 2) (refused x) taken-back))
 

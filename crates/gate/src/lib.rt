@@ -160,6 +160,7 @@ fn withdraw_sound(g: Gate, r: u8) -> Called
 {
     let b = g.book;
     let withdrawn = g.withdrawn;
+    let taken_back = g.taken_back;
     let i = book::wide(r);
     match eligibility_of(b.declared, &b.lengths, &b.counts, &withdrawn, i) {
         Eligibility::Refused(cause) => {
@@ -169,11 +170,15 @@ fn withdraw_sound(g: Gate, r: u8) -> Called
             };
         }
         Eligibility::Eligible => {
-            let mut h = g;
-            h.withdrawn[i] = 1;
+            let mut flags = withdrawn;
+            flags[i] = 1;
             return Called {
                 answer: Reply::Withdrawn,
-                gate: h,
+                gate: Gate {
+                    book: b,
+                    withdrawn: flags,
+                    taken_back,
+                },
             };
         }
     }
@@ -204,7 +209,7 @@ fn take_back_sound(g: Gate, r: u8) -> Called
     out[i] = 1;
     withdrawn[i] = 1;
     taken_back[i] = 1;
-    let others = book::without_runs(b, out);
+    let others = book::leave_out(b, out);
     Called {
         answer: Reply::TakenBack,
         gate: Gate {

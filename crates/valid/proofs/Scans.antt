@@ -115,29 +115,29 @@ module _ (ls ns h : List ℕ) (k : ℕ) where
 -- ---- are_removed
 
 -- the runs below n are tested
-pub record RemovedTo (taken flags counts : List ℕ) (n : ℕ) : Type 0 where
-  pub withdrawn : (r : ℕ) → r < n → ¬ (getD taken r 0 ≡ 0) → ¬ (getD flags r 0 ≡ 0)
-  pub no-step : (r : ℕ) → r < n → ¬ (getD taken r 0 ≡ 0) → getD counts r 0 ≡ 0
+pub record RemovedTo (back out counts : List ℕ) (n : ℕ) : Type 0 where
+  pub withdrawn : (r : ℕ) → r < n → ¬ (getD back r 0 ≡ 0) → ¬ (getD out r 0 ≡ 0)
+  pub no-step : (r : ℕ) → r < n → ¬ (getD back r 0 ≡ 0) → getD counts r 0 ≡ 0
 
-module _ (taken flags counts : List ℕ) where
-  pub removed-none : RemovedTo taken flags counts 0
+module _ (back out counts : List ℕ) where
+  pub removed-none : RemovedTo back out counts 0
   removed-none = record { withdrawn = λ r l. absurd (omega arith); no-step = λ r l. absurd (omega arith) }
 
-  module _ (n : ℕ) (w : RemovedTo taken flags counts n) where
-    pub removed-more : ¬ (getD flags n 0 ≡ 0) → getD counts n 0 ≡ 0 → RemovedTo taken flags counts (n + 1)
+  module _ (n : ℕ) (w : RemovedTo back out counts n) where
+    pub removed-more : ¬ (getD out n 0 ≡ 0) → getD counts n 0 ≡ 0 → RemovedTo back out counts (n + 1)
     removed-more f z = record { withdrawn = below-more _ n (w .withdrawn) (λ t. f); no-step = below-more _ n (w .no-step) (λ t. z) }
 
-    pub not-taken-back : getD taken n 0 ≡ 0 → RemovedTo taken flags counts (n + 1)
+    pub not-taken-back : getD back n 0 ≡ 0 → RemovedTo back out counts (n + 1)
     not-taken-back z = record { withdrawn = below-more _ n (w .withdrawn) (λ t. absurd (t z)); no-step = below-more _ n (w .no-step) (λ t. absurd (t z)) }
 
-    pub removed-all : length taken ≡ run-limit → run-limit ≤ n → Answers (Removed taken flags counts) true
+    pub removed-all : length back ≡ run-limit → run-limit ≤ n → Answers (Removed back out counts) true
     removed-all e l = answer-yes (record { withdrawn = λ r t. w .withdrawn r (inside r t) t; no-step = λ r t. w .no-step r (inside r t) t })
       where
-        inside : (r : ℕ) → ¬ (getD taken r 0 ≡ 0) → r < n
-        inside r t = omega (arith, getD-inside taken r (omega (arith, t)))
+        inside : (r : ℕ) → ¬ (getD back r 0 ≡ 0) → r < n
+        inside r t = omega (arith, getD-inside back r (omega (arith, t)))
 
-    pub not-withdrawn : ¬ (getD taken n 0 ≡ 0) → getD flags n 0 ≡ 0 → Answers (Removed taken flags counts) false
+    pub not-withdrawn : ¬ (getD back n 0 ≡ 0) → getD out n 0 ≡ 0 → Answers (Removed back out counts) false
     not-withdrawn t z = answer-no (λ v. v .withdrawn n t z)
 
-    pub step-kept-of-it : ¬ (getD taken n 0 ≡ 0) → ¬ (getD counts n 0 ≡ 0) → Answers (Removed taken flags counts) false
+    pub step-kept-of-it : ¬ (getD back n 0 ≡ 0) → ¬ (getD counts n 0 ≡ 0) → Answers (Removed back out counts) false
     step-kept-of-it t f = answer-no (λ v. f (v .no-step n t))

@@ -4,7 +4,7 @@ use mathlib.Core.Path.{_≡_}
 use mathlib.Core.List.{List}
 use lib.ListN.{getD}
 
--- each run taken back is withdrawn, and no step of it is kept; by the flags of the runs taken back and of the withdrawn ones, and the counts of kept steps
-pub record Removed (taken flags counts : List ℕ) : Type 0 where
-  pub withdrawn : (r : ℕ) → ¬ (getD taken r 0 ≡ 0) → ¬ (getD flags r 0 ≡ 0)
-  pub no-step : (r : ℕ) → ¬ (getD taken r 0 ≡ 0) → getD counts r 0 ≡ 0
+-- each run taken back is withdrawn, and no step of it is kept; by a flag of each run taken back, a flag of each withdrawn one, and the counts of kept steps
+pub record Removed (taken-back-flags withdrawn-flags counts : List ℕ) : Type 0 where
+  pub withdrawn : (r : ℕ) → ¬ (getD taken-back-flags r 0 ≡ 0) → ¬ (getD withdrawn-flags r 0 ≡ 0)
+  pub no-step : (r : ℕ) → ¬ (getD taken-back-flags r 0 ≡ 0) → getD counts r 0 ≡ 0

@@ -167,15 +167,15 @@ pub fn is_valid(b: Book) -> bool
 
 // Whether each run taken back is withdrawn and has no step kept.
 pub fn are_removed(
-    taken: [u8; Book::RUNS],
+    taken_back: [u8; Book::RUNS],
     withdrawn: [u8; Book::RUNS],
     counts: [u8; Book::RUNS],
 ) -> bool
-    ensures { λ r. ⌜ Answers (Removed taken withdrawn counts) r ⌝ }
+    ensures { λ r. ⌜ Answers (Removed «taken_back» withdrawn counts) r ⌝ }
 {
     let mut r: usize = 0;
     while r < Book::RUNS {
-        if taken[r] != 0 {
+        if taken_back[r] != 0 {
             if withdrawn[r] == 0 {
                 return false;
             }

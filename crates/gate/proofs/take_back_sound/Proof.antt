@@ -25,8 +25,8 @@ array-write-withdrawn c = search removal-low
 array-write-taken-back : tie.Need-array-write-taken-back
 array-write-taken-back c = search removal-low
 
-without-runs-requires : tie.Need-without-runs-requires
-without-runs-requires c κs = search needs
+leave-out-requires : tie.Need-leave-out-requires
+leave-out-requires c κs = search needs
 
 returns-3 : tie.Need-returns-3
 returns-3 c = search take-back-done
@@ -42,5 +42,5 @@ take-back-sound-spec =
     array-write-out
     array-write-withdrawn
     array-write-taken-back
-    without-runs-requires
+    leave-out-requires
     returns-3)

@@ -19,8 +19,8 @@ returns c = search withdraw-refuses
 enum-told : tie.Need-enum-told
 enum-told c = search needs
 
-element-write-h : tie.Need-element-write-h
-element-write-h c = search flag-low
+array-write-flags : tie.Need-array-write-flags
+array-write-flags c = search flag-low
 
 returns-2 : tie.Need-returns-2
 returns-2 c = search withdraw-done
@@ -34,5 +34,5 @@ withdraw-sound-spec =
     enum-known-cause
     returns
     enum-told
-    element-write-h
+    array-write-flags
     returns-2)

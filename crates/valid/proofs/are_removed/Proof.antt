@@ -8,10 +8,10 @@ use Rattle.valid.proofs.are_removed.Statement.{statement}
 use Rattle.valid.proofs.are_removed.Tie as tie
 
 abbrev Inv-loop : tie.InvT-loop
-Inv-loop taken withdrawn counts r₀ r = RemovedTo taken withdrawn counts r
+Inv-loop taken-back withdrawn counts r₀ r = RemovedTo taken-back withdrawn counts r
 
 abbrev μ-loop : tie.MeasureT-loop
-μ-loop taken withdrawn counts r₀ r = run-limit - r
+μ-loop taken-back withdrawn counts r₀ r = run-limit - r
 
 loop-holds : tie.Need-loop-holds Inv-loop μ-loop
 loop-holds c = search removed-none

@@ -1,10 +1,10 @@
 -- The invariant `LeftOut`: the tables hold those of the first i steps that stay. Each turn adds one, or leaves one out.
 use Prim.Native.Nat.{_-_}
 use mathlib.Core.Logic.{⊎-elim}
-use Rattle.book.proofs.WithoutRuns.{LeftOut, none-left-out, place-inside, flag-inside, stays-place, stays-fits, stays-next, one-left-out, one-stays, all-left-out}
+use Rattle.book.proofs.LeaveOut.{LeftOut, none-left-out, place-inside, flag-inside, stays-place, stays-fits, stays-next, one-left-out, one-stays, all-left-out}
 use borrow.Author.Needs.{needs}
-use Rattle.book.proofs.without_runs.Statement.{statement}
-use Rattle.book.proofs.without_runs.Tie as tie
+use Rattle.book.proofs.leave_out.Statement.{statement}
+use Rattle.book.proofs.leave_out.Tie as tie
 
 abbrev Inv-loop : tie.InvT-loop
 Inv-loop b out done counts₀ history₀ n₀ i₀ counts history n i = LeftOut b out counts history n i
@@ -25,7 +25,7 @@ array-read-if1 : tie.Need-array-read-if1 Inv-loop μ-loop
 array-read-if1 c = search flag-inside
 
 array-write-history : tie.Need-array-write-history Inv-loop μ-loop
-array-write-history c = search stays-place
+array-write-history c = search (needs, stays-place)
 
 array-read-counts : tie.Need-array-read-counts Inv-loop μ-loop
 array-read-counts c = search flag-inside
@@ -51,8 +51,8 @@ loop-again c = ⊎-elim (λ w. search one-stays) (λ w. search one-left-out) (c 
 returns : tie.Need-returns Inv-loop μ-loop
 returns c = search all-left-out
 
-pub without-runs-spec : {M : Type 1} → statement M
-without-runs-spec =
+pub leave-out-spec : {M : Type 1} → statement M
+leave-out-spec =
     tie.close
     (tie.spec
     Inv-loop
