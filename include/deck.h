@@ -1,7 +1,7 @@
 /* Deck books for C: reader, judge, class tests, evidence checks, arc test, writer, and the gate, live or as the replay of a list of calls.
 
    A book, a list and a buffer are each a pointer and a length; nothing is kept after a call returns, and nothing is allocated. A length of 0
-   goes with any pointer but a null one. A call reads its books and lists, writes to its buffers and its gate alone, and needs up to 128 KB
+   goes with any pointer but a null one. A call reads its books and lists, writes to its buffers and its gate alone, and needs up to 160 KB
    of stack. A buffer or a gate may overlap no other argument of the call. Calls may be made from several threads at once, on buffers and gates
    of their own.
 
