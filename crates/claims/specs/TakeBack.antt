@@ -45,7 +45,7 @@ pub record TakeBacks : Type 0 where
       → (a ≡ TakenBack) × RunRemoved r g h
   pub deck-answered-so : (g h : Gate) (r : ℕ) (n : Answered) → Sound g → r < length (book-of g .runs) → ¬ In r (state-of g .taken-back) → GateCall (take-back r) g h n
       → (n ≡ answered (value-of 0)) × RunRemoved r g h
-  -- On every sound record a run taken back is withdrawn and has no step kept; its later steps are refused by 21.
+  -- On every sound record a run taken back is withdrawn and has no step kept; its later steps, where it is declared, are refused by 21.
   pub out : (g : Gate) (r : ℕ) → Sound g → In r (state-of g .taken-back) → In r (state-of g .withdrawn) × (count (state-of g .kept) r ≡ 0)
   pub later-steps : (g h : Gate) (r : ℕ) (a : Reply) → Sound g → r < length (book-of g .runs) → In r (state-of g .taken-back) → CalledAs g (step r) a h
       → (a ≡ Refused Withdrawn) × (h ≡ g)
