@@ -81,8 +81,9 @@ typedef struct {
 /* Reads the book and no more: the value is the number of its done steps. */
 deck_answer deck_read(const uint8_t *book, size_t book_len);
 
-/* Whether the book's history is relatively serializable. Passed: `order` begins with the run numbers of an equivalent relatively serial
-   order. Tangled: `cycle` begins with the places of a cycle of the relative serialization graph. All other bytes are unchanged. */
+/* Whether the book's history is relatively serializable. Refused by 12 first, then as the book is. Passed: `order` begins with the run numbers of a
+   relatively serial order that agrees with the history on all conflicting pairs: the one that takes at each turn the smallest place whose arc sources
+   are all taken. Tangled: `cycle` begins with the places of a cycle of the relative serialization graph. All other bytes are unchanged. */
 deck_judgement deck_judge(const uint8_t *book, size_t book_len, uint8_t *order, size_t order_len, uint8_t *cycle, size_t cycle_len);
 
 /* Class tests: 1 if the book's history is in the class, else 0. The classes are nested: where deck_serial answers 1, so do deck_atomic and
@@ -103,7 +104,8 @@ deck_answer deck_check_cycle(const uint8_t *book, size_t book_len, const uint8_t
    steps has none. */
 deck_answer deck_arc(const uint8_t *book, size_t book_len, size_t from, size_t to);
 
-/* Writes the book anew from what was read of it: its bytes to the front of `out`, all other bytes unchanged. The value is its length. */
+/* Writes the book anew from what was read of it: its bytes to the front of `out`, all other bytes unchanged. The value is its length. Refused as the
+   book is, then by 13. */
 deck_answer deck_write(const uint8_t *book, size_t book_len, uint8_t *out, size_t out_len);
 
 /* A gate, as deck_open hands it back. It holds no pointer, so a copy of it is a gate of its own. Programs may read it; only the calls below may write
@@ -161,7 +163,8 @@ deck_answer deck_take_back(deck_gate *gate, uint8_t run);
 
 /* Opens a gate over the book and makes the calls in turn on it. Two bytes a call: 0x53 and a run steps it, 0x57 and a run withdraws it, 0x54 and a run
    takes it back. Two bytes an answer, in order, to the front of `answers`, all other bytes unchanged: 0 and the place of an admitted step; 1 and 0 for
-   a withdrawn run; 2 and the number of a refusal, 20 to 23 or 32; 3 and 0 for a run taken back. The value is the number of calls made. */
+   a withdrawn run; 2 and the number of a refusal, 20 to 23 or 32; 3 and 0 for a run taken back. The value is the number of calls made.
+   Refused as the book is, then by 24 at the offset of the first call that is none of these or is cut off, then by 25. */
 deck_answer deck_replay(const uint8_t *book, size_t book_len, const uint8_t *calls, size_t calls_len, uint8_t *answers, size_t answers_len);
 
 #ifdef __cplusplus

@@ -158,7 +158,8 @@ impl std::error::Error for Refusal {}
 /// What the judge says of a history.
 #[derive(Clone, Debug, PartialEq, Eq)]
 pub enum Verdict {
-    /// The run numbers of an equivalent relatively serial order.
+    /// The run numbers of a relatively serial order that agrees with the history on all conflicting pairs: the one that takes at each turn the smallest
+    /// place whose arc sources are all taken.
     Passed(Vec<u8>),
     /// The places of a cycle of the relative serialization graph.
     Tangled(Vec<u8>),

@@ -1,7 +1,13 @@
 /* Deck books for tests and benchmarks, made from a seed or read from files, and the loop of a test on many of them. */
 #include "books.h"
+#include <ctype.h>
+#include <errno.h>
+#include <inttypes.h>
+#include <signal.h>
 #include <stdio.h>
+#include <stdlib.h>
 #include <string.h>
+#include <unistd.h>
 
 uint64_t draw(source *s) {
     uint64_t z = s->state += 0x9e3779b97f4a7c15ull;
@@ -190,6 +196,67 @@ size_t damage(source *s, uint8_t *book, size_t len) {
     return len;
 }
 
+size_t command_size(uint8_t command) {
+    switch (command) {
+    case 0x52:
+    case 0x48:
+        return 2;
+    case 0x43:
+        return 3;
+    case 0x53:
+    case 0x42:
+        return 4;
+    case 0x54:
+        return 7;
+    default:
+        return 0;
+    }
+}
+
+source aside;
+
+selection by_default(uint64_t seed, long books) { return (selection){.seed = seed, .books = books, .each = books, .enough = books}; }
+
+enum { MOST_BOOKS = 1000000000 };
+
+static const char *program, *operand_text; /* as in the usage */
+static int required; /* whether the books are enough, so that no count may be 0 */
+
+static _Noreturn void usage(const selection *d) {
+    fprintf(stderr, "usage: %s [-s SEED] [-n BOOKS]%s\n", program, operand_text);
+    fprintf(stderr, "  SEED    1 to %" PRIu64 "; %" PRIu64 " if it is not given\n", UINT64_MAX, d->seed);
+    fprintf(stderr, "  BOOKS   1 to %d; %ld if it is not given; with %ld or more it fails where a count is 0\n", MOST_BOOKS, d->books, d->enough);
+    exit(2);
+}
+
+/* The number from 1 to `most` that the text is, in digits alone; 0 for any other text. */
+static uint64_t number_of(const char *text, uint64_t most) {
+    char *end;
+    errno = 0;
+    uint64_t n = strtoull(text, &end, 10);
+    return isdigit((unsigned char)*text) && !*end && !errno && n <= most ? n : 0;
+}
+
+char **read_options(int argc, char **argv, const char *operands, int least, int most, selection *chosen) {
+    const selection defaults = *chosen;
+    int option;
+    program = argv[0];
+    operand_text = operands;
+    while ((option = getopt(argc, argv, "+s:n:")) != -1) {
+        uint64_t n = option == 's' ? number_of(optarg, UINT64_MAX) : option == 'n' ? number_of(optarg, MOST_BOOKS) : 0;
+        if (!n)
+            usage(&defaults);
+        if (option == 's')
+            chosen->seed = n;
+        else
+            chosen->books = (long)n;
+    }
+    if (argc - optind < least || argc - optind > most)
+        usage(&defaults);
+    required = chosen->books >= chosen->enough;
+    return argv + optind;
+}
+
 static const char *fault; /* the first thing that was not ok of the book at hand, or null */
 
 int expect(int ok, const char *what) {
@@ -201,17 +268,70 @@ int expect(int ok, const char *what) {
 static uint8_t book[BOOK_ROOM]; /* the book at hand */
 static long passed, failed; /* books */
 
-/* Counts the book at hand, which has that label, and prints what was not ok of it. */
-static void count_book(const char *label) {
-    passed += !fault;
-    failed += fault != NULL;
-    if (fault)
+/* Counts the book at hand, which has that label, and prints what was not ok of it. Answers whether it passed. */
+static int count_book(const char *label) {
+    int ok = !fault;
+    passed += ok;
+    failed += !ok;
+    if (!ok)
         printf("%s: %s\n", label, fault);
     fault = NULL;
+    return ok;
+}
+
+/* Prints the book at hand, of so many bytes, as tests/books has them: a command a line; from 45 or a byte that is no command on, lines of 16 bytes. */
+static void print_book(size_t len) {
+    int commands = 1; /* whether only whole commands stand before */
+    for (size_t at = 0, size; at < len; at += size) {
+        size = commands ? command_size(book[at]) : 0;
+        commands = size > 0;
+        size = commands ? size : 16;
+        size = size > len - at ? len - at : size;
+        for (size_t i = 0; i < size; i++)
+            printf("%02x%c", book[at + i], i + 1 < size ? ' ' : '\n');
+    }
+}
+
+static struct {
+    uint64_t seed;
+    long index; /* among the books of the seed */
+    size_t len;
+} drawn; /* the book at hand */
+
+/* Counts the drawn book; where it is one of the first that failed, prints how it comes again, and its bytes. */
+static void count_drawn(void) {
+    enum { SHOWN = 3 };
+    char label[64];
+    snprintf(label, sizeof label, "book %ld of seed %" PRIu64, drawn.index, drawn.seed);
+    if (count_book(label) || failed > SHOWN)
+        return;
+    printf("# the last book of: %s -s %" PRIu64 " -n %ld%s\n", program, drawn.seed, drawn.index + 1, operand_text);
+    print_book(drawn.len);
+}
+
+/* Prints the drawn book at which the program is stopped. */
+static void stopped(int number) {
+    fault = "the program was stopped by a signal";
+    count_drawn();
+    fflush(stdout);
+    raise(number); /* which stops it when this returns */
+}
+
+static void watch_signals(void) {
+    static const int numbers[] = {SIGABRT, SIGSEGV, SIGBUS, SIGFPE, SIGILL};
+    const struct sigaction once = {.sa_handler = stopped, .sa_flags = SA_RESETHAND};
+    for (size_t i = 0; i < sizeof numbers / sizeof *numbers; i++)
+        sigaction(numbers[i], &once, NULL);
+}
+
+/* Begins a seed. */
+static source begin(uint64_t seed) {
+    aside = (source){seed + 1};
+    return (source){seed};
 }
 
 void test_files(uint64_t seed, char **files, book_test *test) {
-    source s = {seed};
+    source s = begin(seed);
     for (; *files; files++) {
         FILE *f = fopen(*files, "rb");
         size_t len = f ? fread(book, 1, sizeof book, f) : 0;
@@ -221,33 +341,46 @@ void test_files(uint64_t seed, char **files, book_test *test) {
     }
 }
 
-int test_books(uint64_t seed, long books, book_test *test) {
-    source s = {seed};
+/* Makes the test on the first books of a seed. */
+static void test_seed(uint64_t seed, long books, book_test *test) {
+    source s = begin(seed);
     for (long k = 0; k < books; k++) {
-        char label[32];
         shape f = draw_shape(&s);
         size_t len = k % 50 ? make_book(&s, &f, book) : make_long_book(&s, book);
         if (k % 2)
             len = damage(&s, book, len);
+        drawn.seed = seed;
+        drawn.index = k;
+        drawn.len = len;
         test(&s, book, len);
-        snprintf(label, sizeof label, "book %ld", k);
-        count_book(label);
+        count_drawn();
     }
+}
+
+int test_books(const selection *chosen, book_test *test) {
+    uint64_t seed = chosen->seed;
+    watch_signals();
+    for (long left = chosen->books; left > 0; left -= chosen->each)
+        test_seed(seed++, left < chosen->each ? left : chosen->each, test);
     printf("%ld passed, %ld failed\n", passed, failed);
     return failed != 0;
 }
 
 int none(long count, const char *text, const char *where) {
-    if (!count)
-        printf("%s: no book %s\n", text, where);
-    return !count;
+    if (count || !required)
+        return 0;
+    printf("%s: no book %s\n", text, where);
+    return 1;
+}
+
+int print_count(const char *text, long count) {
+    printf("%s: %ld\n", text, count);
+    return none(count, text, "at all");
 }
 
 int print_counts(const book_count *counts, size_t n) {
     int status = 0;
-    for (size_t k = 0; k < n; k++) {
-        printf("%s: %ld\n", counts[k].text, counts[k].books);
-        status |= none(counts[k].books, counts[k].text, "at all");
-    }
+    for (size_t k = 0; k < n; k++)
+        status |= print_count(counts[k].text, counts[k].books);
     return status;
 }

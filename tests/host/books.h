@@ -14,6 +14,9 @@ uint64_t draw(source *s);
 /* A number from 0 to n - 1. */
 unsigned below(source *s, unsigned n);
 
+/* A source beside that of the books, which may be drawn from without changing the books to come. It begins anew with each seed. */
+extern source aside;
+
 typedef struct {
     unsigned runs; /* as many runs */
     unsigned steps; /* steps in each run, at most */
@@ -43,6 +46,25 @@ shape draw_shape(source *s);
 /* The new length of a book with one or more bytes changed, left out or put in. */
 size_t damage(source *s, uint8_t *book, size_t len);
 
+/* Which books a test makes. */
+typedef struct {
+    uint64_t seed; /* of the first */
+    long books; /* so many */
+    long each; /* so many from one seed, then from the next higher one */
+    long enough; /* with so many or more, none of the test's counts may be 0 */
+} selection;
+
+/* A test's books by default: so many, all from one seed, and just enough. */
+selection by_default(uint64_t seed, long books);
+
+/* Reads a program's options, -s SEED and -n BOOKS, into the selection, which has the defaults. Answers the operands behind them, a list that ends in a null
+   pointer: `least` to `most`, with the text `operands` in the usage. Where an option or the number of operands is wrong, prints the usage and ends the
+   program with status 2. */
+char **read_options(int argc, char **argv, const char *operands, int least, int most, selection *chosen);
+
+/* The number of bytes of a command; 0 for 45, behind which there is none, and for a byte that is no command. */
+size_t command_size(uint8_t command);
+
 /* One thing that a test expects of the book at hand, and what it is: the book fails where it is not ok. Answers ok. */
 int expect(int ok, const char *what);
 
@@ -53,20 +75,22 @@ typedef void book_test(source *s, const uint8_t *book, size_t len);
    book that failed; a file that cannot be read fails too. */
 void test_files(uint64_t seed, char **files, book_test *test);
 
-/* Makes the test on so many books from a seed, whole, damaged and over the limits. Prints the first thing that was not ok of each book that failed,
-   and 'N passed, M failed', a count of books, those of test_files before it included; the status of a program. */
-int test_books(uint64_t seed, long books, book_test *test);
+/* Makes the test on the chosen books, whole, damaged and over the limits. Prints the first thing that was not ok of each book that failed; of the first few
+   also the options by which the book comes last, and its bytes as tests/books has them. Then prints 'N passed, M failed', a count of books, those of
+   test_files before it included; the status of a program. */
+int test_books(const selection *chosen, book_test *test);
 
-/* 1 and a printed line where there were no such books. */
+/* 1 and a printed line where a count is 0 though the books are enough, else 0. */
 int none(long count, const char *text, const char *where);
 
-/* A count of books, and of which. */
+/* A count, mostly of books, and of which. */
 typedef struct {
     const char *text;
     long books;
 } book_count;
 
-/* Prints each of n counts; 1 where one of them is 0. */
+/* Print one count, or each of n; 1 where one of them is 0 though the books are enough, else 0. */
+int print_count(const char *text, long count);
 int print_counts(const book_count *counts, size_t n);
 
 #endif

@@ -1,12 +1,14 @@
-/* Asks the proved calls which of five classes a history is in, on many books from a fixed seed, whole, damaged and over the limits, and on each
-   accepted one under other cuts, and checks that the classes are nested. Prints 'N passed, M failed', a count of books from the seed; of those in
-   whose history two runs at least have a done step, for each inclusion how many are in both classes and how many in the larger alone, and how many are
-   tangled. It fails where one of these counts is 0. */
+/* Asks the proved calls which of five classes a history is in, on many books from a seed, whole, damaged and over the limits, and on each accepted one
+   under other cuts, and checks that the classes are nested.
+     classes [-s SEED] [-n BOOKS]
+   Prints 'N passed, M failed', a count of books from the seed; of those in whose history two runs at least have a done step, for each inclusion how many
+   are in both classes and how many in the larger alone, and how many are tangled. It fails where one of these counts is 0, unless there are fewer books
+   than by default. */
 #include "books.h"
 #include "plain.h"
 #include <stdio.h>
 
-enum { BOOKS = 6000 };
+enum { BOOKS = 6000, SEED = 20261117 };
 enum { DRAWN = 3 }; /* books with drawn cuts, for each accepted book */
 
 /* The longest book has all pairs, all runs, all steps in as few of them as hold them, each a transfer, every cut, and all steps done. It is no longer
@@ -110,8 +112,10 @@ static void check(source *s, const uint8_t *book, size_t len) {
     }
 }
 
-int main(void) {
-    int status = test_books(20261117, BOOKS, check);
+int main(int argc, char **argv) {
+    selection chosen = by_default(SEED, BOOKS);
+    read_options(argc, argv, "", 0, 0, &chosen);
+    int status = test_books(&chosen, check);
     for (int i = 0; i < INCLUSIONS; i++) {
         const char *text = inclusions[i].text;
         long both = inclusions[i].both, large_alone = inclusions[i].large_alone;

@@ -3,11 +3,12 @@
 #include "compare.h"
 #include <string.h>
 
-enum { CALLS = 200 }; /* in a list, at most */
+enum { CALLS = 200 }; /* a list has fewer */
+enum { SOAKING_CALLS = 2 * DECK_STEPS + 8, SOAKING_LISTS = 3 }; /* the same while soaking, on a full book; so many lists on an accepted one */
 enum { ROOM = DECK_BUFFER + 72 }; /* of each buffer, filled beforehand so that a stray byte shows */
 enum { SHORT = 6 }; /* done steps, at most, of a history on whose every pair of places the arcs are compared */
 
-long altered_records[2], take_backs[BACK_COUNTS], arc_answers[ARC_SUMS];
+int soaking;
 
 static int untouched(const uint8_t *buffer, size_t from, size_t len, uint8_t fill) {
     for (size_t i = from; i < len; i++)
@@ -51,6 +52,7 @@ static void compare_judge(const uint8_t *book, size_t len, const plain_book *b, 
         return;
     }
     *passed = plain_judge(b, plain_order, plain_cycle, count);
+    verdicts[*passed]++;
     expect(j.number == 0 && j.place == 0 && j.verdict == (*passed ? DECK_PASSED : DECK_TANGLED), "judge: verdict");
     if (*passed) {
         expect(j.count == (uint64_t)*count && memcmp(order, plain_order, (size_t)*count) == 0, "judge: order");
@@ -111,23 +113,21 @@ static deck_gate compare_opening(const uint8_t *book, size_t len, plain_refusal 
 }
 
 /* The kinds of call to a gate. */
-typedef enum { STEP, WITHDRAW, TAKE_BACK, CALL_KINDS } call_kind;
-
 static const struct {
     uint8_t byte; /* in a list of calls */
     uint8_t answer; /* the first byte of a replay's answer to a call that is carried out */
     deck_answer (*proved)(deck_gate *gate, uint8_t run);
     int (*plain)(plain_gate *g, int r); /* the answer, or minus the number of the refusal */
 } gate_calls[CALL_KINDS] = {
-    [STEP] = {0x53, 0, deck_step, plain_step},
-    [WITHDRAW] = {0x57, 1, deck_withdraw, plain_withdraw},
-    [TAKE_BACK] = {0x54, 3, deck_take_back, plain_take_back},
+    [CALL_STEP] = {0x53, 0, deck_step, plain_step},
+    [CALL_WITHDRAW] = {0x57, 1, deck_withdraw, plain_withdraw},
+    [CALL_TAKE_BACK] = {0x54, 3, deck_take_back, plain_take_back},
 };
 enum { REFUSED = 2 }; /* the first byte of a replay's answer to a refused call */
 
 /* The kind of the call that the byte is. */
 static call_kind kind_of(uint8_t byte) {
-    call_kind kind = STEP;
+    call_kind kind = CALL_STEP;
     while (gate_calls[kind].byte != byte)
         kind++;
     return kind;
@@ -136,13 +136,13 @@ static call_kind kind_of(uint8_t byte) {
 /* The record that a call leaves of this one where it is carried out. */
 static deck_gate after_call(const deck_gate *record, call_kind kind, unsigned run) {
     deck_gate next = *record;
-    if (kind == STEP) {
+    if (kind == CALL_STEP) {
         next.kept[next.kept_count++] = (uint8_t)run;
         next.counts[run]++;
         return next;
     }
     next.withdrawn[run] = 1;
-    if (kind == WITHDRAW)
+    if (kind == CALL_WITHDRAW)
         return next;
     next.taken_back[run] = 1;
     next.counts[run] = 0;
@@ -216,7 +216,7 @@ static void alter_flag(source *s, deck_gate *record) {
 static void alter_taken_back(source *s, deck_gate *record) {
     unsigned r = draw_run(s), way = below(s, 3);
     if (way == 2 && record->kept_count <= DECK_STEPS)
-        *record = after_call(record, TAKE_BACK, r);
+        *record = after_call(record, CALL_TAKE_BACK, r);
     if (way > 0)
         record->withdrawn[r] = 1;
     record->taken_back[r] = (uint8_t)below(s, 3);
@@ -296,23 +296,22 @@ static void alter_record(source *s, deck_gate *record) {
 /* At times changes a copy of the record and makes a call of each kind on it, any of them first: where the copy is sound as on its plain gate, else refused
    by 26. */
 static void compare_altered(const deck_gate *live) {
-    static source s = {20261116}; /* of its own, so that the books stay as they are */
-    deck_gate record = *live;
     plain_gate g;
-    if (below(&s, 4))
+    if (below(&aside, 4))
         return;
-    for (unsigned times = 1 + below(&s, 3); times > 0; times--)
-        alter_record(&s, &record);
+    deck_gate record = *live;
+    for (unsigned times = 1 + below(&aside, 3); times > 0; times--)
+        alter_record(&aside, &record);
     if (memcmp(&record, live, sizeof record) == 0)
         return;
     int sound = plain_sound(&record);
     if (sound)
         plain_gate_of(&record, &g);
     altered_records[sound]++;
-    unsigned first = below(&s, CALL_KINDS);
+    unsigned first = below(&aside, CALL_KINDS);
     for (unsigned k = 0; k < CALL_KINDS; k++) {
         call_kind kind = (first + k) % CALL_KINDS;
-        int run = (int)(below(&s, 4) ? draw_run(&s) : below(&s, UINT8_MAX + 1));
+        int run = (int)(below(&aside, 4) ? draw_run(&aside) : below(&aside, UINT8_MAX + 1));
         compare_call(&record, kind, run, sound ? gate_calls[kind].plain(&g, run) : -DECK_GATE_DAMAGED, "gate: a call on an altered record");
     }
 }
@@ -331,16 +330,26 @@ static void check_sentences(past *h, call_kind kind, int run, int want) {
         h->tangled[run] = 1;
     if (want < 0)
         return;
-    if (kind == STEP) {
+    if (kind == CALL_STEP) {
         expect(!h->withdrawn[run], "gate: a withdrawn run admitted later");
         expect(!h->tangled[run], "gate: a tangled run admitted before a take-back");
         take_backs[BACK_ADMITTED] += h->tangled_before[run];
         h->tangled_before[run] = 0;
     } else
         h->withdrawn[run] = 1;
-    for (int r = 0; kind == TAKE_BACK && r <= UINT8_MAX; r++) {
+    for (int r = 0; kind == CALL_TAKE_BACK && r <= UINT8_MAX; r++) {
         h->tangled_before[r] |= h->tangled[r];
         h->tangled[r] = 0;
+    }
+}
+
+/* Counts a call and its answer, given as by plain.c, on the plain gate that it leaves. */
+static void count_call(const plain_gate *g, call_kind kind, int run, int want) {
+    call_counts[kind][want < 0 ? -want : 0]++;
+    if (kind == CALL_STEP && want >= 0) {
+        const step_record *step = &g->book.step[run][g->book.done[run] - 1];
+        admitted_transfers += plain_is_transfer(step);
+        admitted_homing += plain_homes(step);
     }
 }
 
@@ -368,28 +377,32 @@ static void compare_kept(const plain_gate *g) {
 static void compare_calls(const uint8_t *book, size_t len, const plain_book *b, const uint8_t *calls, size_t n, const uint8_t *answers) {
     past h = {0};
     plain_gate g;
+    int most = 0; /* kept at a time */
     plain_open(b, &g);
     deck_gate live = compare_opening(book, len, (plain_refusal){0, 0}, &g);
     for (size_t i = 0; i < n; i++) {
         call_kind kind = kind_of(calls[2 * i]);
         int run = calls[2 * i + 1], want = gate_calls[kind].plain(&g, run), value = want < 0 ? -want : want;
-        if (kind == TAKE_BACK)
+        count_call(&g, kind, run, want);
+        if (kind == CALL_TAKE_BACK)
             take_backs[count_of(&live, run, want)]++;
         compare_altered(&live);
         compare_call(&live, kind, run, want, "gate: a call on the record");
         expect(same_gate(&live, &g), "gate: the record after a call");
         expect(answers[2 * i] == (want < 0 ? REFUSED : gate_calls[kind].answer) && answers[2 * i + 1] == value, "gate: an answer");
         check_sentences(&h, kind, run, want);
-        if (kind == TAKE_BACK && want >= 0)
+        if (kind == CALL_TAKE_BACK && want >= 0)
             compare_kept(&g);
+        most = g.book.n > most ? g.book.n : most;
     }
     compare_kept(&g);
+    call_lists[most]++;
 }
 
 /* Mostly a step. */
 static call_kind draw_kind(source *s) {
     unsigned k = below(s, 16);
-    return k == 0 ? WITHDRAW : k == 1 ? TAKE_BACK : STEP;
+    return k == 0 ? CALL_WITHDRAW : k == 1 ? CALL_TAKE_BACK : CALL_STEP;
 }
 
 /* A byte that is no call, any of the 253. */
@@ -398,14 +411,26 @@ static uint8_t draw_no_call(source *s) {
     return byte == 0x57 ? 0x52 : byte;
 }
 
-/* Makes a list of calls, at times with a byte that is no call or cut off, by replay, and where it is made compares the answers. */
-static void compare_gate(source *s, const uint8_t *book, size_t len, const plain_book *b, plain_refusal r) {
-    static uint8_t calls[2 * CALLS + 1], answers[2 * CALLS + 8];
-    size_t n = below(s, CALLS), bad = 2 * n;
+/* Draws calls to the gate of a book; answers how many. */
+static size_t draw_calls(source *s, const plain_book *b, uint8_t *calls) {
+    size_t n = below(s, soaking ? 2 * (unsigned)b->steps + 8 : CALLS), along = 0; /* so many are the first steps of the history */
     for (size_t i = 0; i < n; i++) {
         calls[2 * i] = gate_calls[draw_kind(s)].byte;
         calls[2 * i + 1] = (uint8_t)(below(s, 50) ? below(s, (unsigned)b->runs + 1) : draw(s));
     }
+    if (soaking && below(s, 2))
+        along = below(s, 2) ? n : below(s, (unsigned)n + 1);
+    for (size_t i = 0; i < along && i < (size_t)b->n; i++) {
+        calls[2 * i] = gate_calls[CALL_STEP].byte;
+        calls[2 * i + 1] = b->history[i];
+    }
+    return n;
+}
+
+/* Makes a list of calls, at times with a byte that is no call or cut off, by replay, and where it is made compares the answers. */
+static void compare_gate(source *s, const uint8_t *book, size_t len, const plain_book *b, plain_refusal r) {
+    static uint8_t calls[2 * SOAKING_CALLS + 1], answers[2 * SOAKING_CALLS + 8];
+    size_t n = draw_calls(s, b, calls), bad = 2 * n;
     if (n && below(s, 10) == 0) {
         bad = 2 * (size_t)below(s, (unsigned)n);
         calls[bad] = draw_no_call(s);
@@ -449,6 +474,7 @@ static void compare_arcs(const uint8_t *book, size_t len, const plain_book *b, c
 void compare_book(source *s, const uint8_t *book, size_t len, const plain_book *b, plain_refusal r) {
     uint8_t found[DECK_STEPS], list[ROOM];
     int count, passed;
+    books_by_number[r.number]++;
     compare_answer(deck_read(book, len), r, b->n, "reader");
     compare_judge(book, len, b, r, found, &count, &passed);
     compare_short_buffers(s, book, len);
@@ -474,7 +500,8 @@ void compare_book(source *s, const uint8_t *book, size_t len, const plain_book *
     if (!r.number)
         compare_arcs(book, len, b, found, passed ? 0 : (size_t)count);
     compare_writer(s, book, len, r);
-    compare_gate(s, book, len, b, r);
+    for (int k = 0; k < (soaking && !r.number ? SOAKING_LISTS : 1); k++)
+        compare_gate(s, book, len, b, r);
     if (r.number)
         compare_refused_gate(book, len, r);
 }
@@ -517,8 +544,9 @@ void count_differences(const plain_book *b, const plain_book *earlier) {
     differences[GATE].books += !same_at_the_gate(b, earlier);
 }
 
-int test_rules(int argc, char **argv, uint64_t seed, long books, book_test *test, const book_count *counts, size_t n) {
-    test_files(seed, argv + 1, test);
-    int status = test_books(seed, books, test) | none(argc - 1, "files", "at all");
+int test_rules(int argc, char **argv, selection chosen, book_test *test, const book_count *counts, size_t n) {
+    char **files = read_options(argc, argv, " FILE..", 1, argc, &chosen);
+    test_files(chosen.seed, files, test);
+    int status = test_books(&chosen, test);
     return status | print_counts(counts, n) | print_counts(differences, DIFFERENCES);
 }

@@ -101,12 +101,11 @@ static int read_done(const uint8_t *c, plain_book *b, progress *p) {
 /* Into a book that is empty, and whose steps conflict by one rule or the other. */
 static plain_refusal read_book(const uint8_t *s, size_t len, plain_book *b) {
     progress p = {0, -1, -1};
-    size_t at = 0;
     if (len > DECK_BOOK)
         return refuse(DECK_BOOK_TOO_LONG, 0);
-    while (at < len) {
+    for (size_t at = 0, size; at < len; at += size) {
         const uint8_t *c = s + at;
-        size_t left = len - at, size;
+        size_t left = len - at;
         int number;
         switch (c[0]) {
         case 0x43:
@@ -136,9 +135,8 @@ static plain_refusal read_book(const uint8_t *s, size_t len, plain_book *b) {
         }
         if (number)
             return refuse(number, at);
-        at += size;
     }
-    return refuse(DECK_ENDS_EARLY, at);
+    return refuse(DECK_ENDS_EARLY, len);
 }
 
 plain_refusal plain_read(const uint8_t *s, size_t len, plain_book *b) {
@@ -152,6 +150,12 @@ plain_refusal plain_read_singles(const uint8_t *s, size_t len, plain_book *b) {
     b->home = DECK_HOME;
     b->first_touches = 1;
     return read_book(s, len, b);
+}
+
+int plain_is_transfer(const step_record *step) { return step->touches == 2; }
+
+int plain_homes(const step_record *step) {
+    return step->touch[0].position == DECK_HOME || (plain_is_transfer(step) && step->touch[1].position == DECK_HOME);
 }
 
 int plain_count(const plain_book *b, int (*is)(const step_record *step)) {
@@ -362,20 +366,29 @@ int plain_judge(const plain_book *b, uint8_t *order, uint8_t *cycle, int *count)
 typedef struct {
     int n;
     uint8_t run[DECK_STEPS], ordinal[DECK_STEPS];
+    uint8_t unit[DECK_STEPS][DECK_RUNS]; /* unit[p][o]: how many cuts of p's run, as seen by o, lie at or before p */
     uint8_t depends[DECK_STEPS][DECK_STEPS]; /* depends[p][q]: q depends on p */
 } slow;
 
-static void slow_build(const plain_book *b, const uint8_t *history, int n, slow *h) {
+static void slow_number(const plain_book *b, const uint8_t *history, int n, slow *h) {
     int count[DECK_RUNS] = {0};
-    memset(h, 0, sizeof *h);
     h->n = n;
     for (int p = 0; p < n; p++) {
         h->run[p] = history[p];
         h->ordinal[p] = (uint8_t)count[history[p]]++;
+        for (int o = 0; o < b->runs; o++) {
+            h->unit[p][o] = 0;
+            for (int j = 1; j <= h->ordinal[p]; j++)
+                h->unit[p][o] += b->cut[h->run[p]][j][o];
+        }
     }
-    for (int q = 0; q < n; q++)
-        for (int p = 0; p < q; p++)
-            h->depends[p][q] = h->run[p] == h->run[q] || steps_conflict(b, h->run[p], h->ordinal[p], h->run[q], h->ordinal[q]);
+}
+
+static void slow_build(const plain_book *b, const uint8_t *history, int n, slow *h) {
+    slow_number(b, history, n, h);
+    for (int p = 0; p < n; p++)
+        for (int q = 0; q < n; q++)
+            h->depends[p][q] = p < q && (h->run[p] == h->run[q] || steps_conflict(b, h->run[p], h->ordinal[p], h->run[q], h->ordinal[q]));
     for (int k = 0; k < n; k++)
         for (int p = 0; p < k; p++)
             if (h->depends[p][k])
@@ -383,35 +396,31 @@ static void slow_build(const plain_book *b, const uint8_t *history, int n, slow 
                     h->depends[p][q] |= h->depends[k][q];
 }
 
-/* how many cuts of p's run, as seen by o, lie at or before p */
-static int unit(const plain_book *b, const slow *h, int p, int o) {
-    int u = 0;
-    for (int j = 1; j <= h->ordinal[p]; j++)
-        u += b->cut[h->run[p]][j][o];
-    return u;
-}
+static int same_unit(const slow *h, int o, int p, int k) { return h->run[p] == h->run[k] && h->unit[p][o] == h->unit[k][o]; }
 
-static int same_unit(const plain_book *b, const slow *h, int o, int p, int k) {
-    return h->run[p] == h->run[k] && unit(b, h, p, o) == unit(b, h, k, o);
-}
+/* What holds of a step x and a unit: some step of the unit comes before x; some comes after it; some depends on x, or x on it. */
+enum { BEFORE = 1, AFTER = 2, DEPENDENT = 4 };
 
-static int slow_relserial(const plain_book *b, const slow *h, int atomic) {
-    for (int x = 0; x < h->n; x++)
-        for (int y = 0; y < h->n; y++) {
-            if (h->run[x] == h->run[y])
+/* Whether no step and unit of another run, as seen by the step's run, have all that is forbidden. */
+static int slow_free_of(const slow *h, int forbidden) {
+    for (int x = 0; x < h->n; x++) {
+        uint8_t with[DECK_RUNS][DECK_RUN_STEPS] = {{0}}; /* by run and unit */
+        int o = h->run[x];
+        for (int d = 0; d < h->n; d++) {
+            uint8_t *w = &with[h->run[d]][h->unit[d][o]];
+            if (h->run[d] == o)
                 continue;
-            int before = 0, after = 0, dependent = 0;
-            for (int d = 0; d < h->n; d++)
-                if (same_unit(b, h, h->run[x], y, d)) {
-                    before |= d < x;
-                    after |= d > x;
-                    dependent |= h->depends[d][x] || h->depends[x][d];
-                }
-            if (before && after && (atomic || dependent))
+            *w |= d < x ? BEFORE : AFTER;
+            if (h->depends[d][x] || h->depends[x][d])
+                *w |= DEPENDENT;
+            if ((*w & forbidden) == forbidden)
                 return 0;
         }
+    }
     return 1;
 }
+
+static int slow_relserial(const slow *h) { return slow_free_of(h, BEFORE | AFTER | DEPENDENT); }
 
 int plain_serial(const plain_book *b) {
     for (int p = 0; p < b->n; p++)
@@ -425,13 +434,13 @@ int plain_serial(const plain_book *b) {
 int plain_atomic(const plain_book *b) {
     slow h;
     slow_build(b, b->history, b->n, &h);
-    return slow_relserial(b, &h, 1);
+    return slow_free_of(&h, BEFORE | AFTER);
 }
 
 int plain_relserial(const plain_book *b) {
     slow h;
     slow_build(b, b->history, b->n, &h);
-    return slow_relserial(b, &h, 0);
+    return slow_relserial(&h);
 }
 
 /* the graph over the runs (003, serialization graph) has no cycle */
@@ -472,39 +481,39 @@ int plain_order_check(const plain_book *b, const uint8_t *list, size_t len) {
             if (conflicting(b, &g, p, q) && place[b->history[p]][g.ordinal[p]] > place[b->history[q]][g.ordinal[q]])
                 return 0;
     slow_build(b, list, (int)len, &h);
-    return slow_relserial(b, &h, 0);
+    return slow_relserial(&h);
 }
 
 /* whether q is of another run than p and depends on it */
 static int d_arc(const slow *h, int p, int q) { return h->run[p] != h->run[q] && h->depends[p][q]; }
 
 /* whether x is the last step of p's unit, as seen by o */
-static int last_of_unit(const plain_book *b, const slow *h, int o, int p, int x) {
+static int last_of_unit(const slow *h, int o, int p, int x) {
     int later = 0;
     for (int k = x + 1; k < h->n; k++)
-        later |= same_unit(b, h, o, p, k);
-    return same_unit(b, h, o, p, x) && !later;
+        later |= same_unit(h, o, p, k);
+    return same_unit(h, o, p, x) && !later;
 }
 
 /* whether y is the first step of q's unit, as seen by o */
-static int first_of_unit(const plain_book *b, const slow *h, int o, int q, int y) {
+static int first_of_unit(const slow *h, int o, int q, int y) {
     int earlier = 0;
     for (int k = 0; k < y; k++)
-        earlier |= same_unit(b, h, o, q, k);
-    return same_unit(b, h, o, q, y) && !earlier;
+        earlier |= same_unit(h, o, q, k);
+    return same_unit(h, o, q, y) && !earlier;
 }
 
-static int slow_arc(const plain_book *b, const slow *h, int x, int y) {
+static int slow_arc(const slow *h, int x, int y) {
     int arcs = 0;
     if (h->run[x] == h->run[y] && h->ordinal[y] == h->ordinal[x] + 1)
         arcs |= DECK_ARC_I;
     if (d_arc(h, x, y))
         arcs |= DECK_ARC_D;
     for (int p = 0; p < h->n; p++)
-        if (d_arc(h, p, y) && last_of_unit(b, h, h->run[y], p, x))
+        if (d_arc(h, p, y) && last_of_unit(h, h->run[y], p, x))
             arcs |= DECK_ARC_F;
     for (int q = 0; q < h->n; q++)
-        if (d_arc(h, x, q) && first_of_unit(b, h, h->run[x], q, y))
+        if (d_arc(h, x, q) && first_of_unit(h, h->run[x], q, y))
             arcs |= DECK_ARC_B;
     return arcs;
 }
@@ -514,7 +523,7 @@ int plain_arc(const plain_book *b, size_t x, size_t y) {
     if (x >= (size_t)b->n || y >= (size_t)b->n)
         return 0;
     slow_build(b, b->history, b->n, &h);
-    return slow_arc(b, &h, (int)x, (int)y);
+    return slow_arc(&h, (int)x, (int)y);
 }
 
 int plain_cycle_check(const plain_book *b, const uint8_t *list, size_t len) {
@@ -530,7 +539,7 @@ int plain_cycle_check(const plain_book *b, const uint8_t *list, size_t len) {
     }
     slow_build(b, b->history, b->n, &h);
     for (size_t i = 0; i < len; i++)
-        if (!slow_arc(b, &h, list[i], list[(i + 1) % len]))
+        if (!slow_arc(&h, list[i], list[(i + 1) % len]))
             return 0;
     return 1;
 }
@@ -560,13 +569,14 @@ int plain_step(plain_gate *g, int r) {
     int count, number = turned_away(g, r);
     if (number)
         return -number;
-    plain_book next = g->book;
-    next.history[next.n++] = (uint8_t)r;
-    next.done[r]++;
-    if (!plain_judge(&next, order, cycle, &count))
-        return -DECK_GATE_TANGLED;
-    g->book = next;
-    return next.n - 1;
+    plain_book *b = &g->book;
+    b->history[b->n++] = (uint8_t)r;
+    b->done[r]++;
+    if (plain_judge(b, order, cycle, &count))
+        return b->n - 1;
+    b->history[--b->n] = 0;
+    b->done[r]--;
+    return -DECK_GATE_TANGLED;
 }
 
 int plain_withdraw(plain_gate *g, int r) {
@@ -609,12 +619,12 @@ static step_record step_of(uint64_t code) {
     return step;
 }
 
-/* n entries, each 0 or 1 */
+/* n entries, each 0 or 1: no entry has another bit than the lowest */
 static int flags(const uint8_t *table, int n) {
+    uint8_t bits = 0;
     for (int i = 0; i < n; i++)
-        if (table[i] > 1)
-            return 0;
-    return 1;
+        bits |= table[i];
+    return bits <= 1;
 }
 
 static int runs_sound(const deck_gate *record) {
@@ -633,21 +643,21 @@ static int runs_sound(const deck_gate *record) {
 }
 
 static int kept_sound(const deck_gate *record) {
-    uint64_t sum = 0;
+    int count[DECK_RUNS] = {0};
     if (record->kept_count > DECK_STEPS)
         return 0;
-    for (uint64_t p = 0; p < DECK_STEPS; p++)
-        if (record->kept[p] >= DECK_RUNS || (p >= record->kept_count && record->kept[p] != 0))
+    for (uint64_t p = 0; p < record->kept_count; p++) {
+        if (record->kept[p] >= DECK_RUNS)
             return 0;
-    for (int r = 0; r < DECK_RUNS; r++) {
-        int count = 0;
-        for (uint64_t p = 0; p < record->kept_count; p++)
-            count += record->kept[p] == r;
-        if (record->counts[r] != count || record->counts[r] > record->lengths[r])
-            return 0;
-        sum += record->counts[r];
+        count[record->kept[p]]++;
     }
-    return sum == record->kept_count;
+    for (uint64_t p = record->kept_count; p < DECK_STEPS; p++)
+        if (record->kept[p] != 0)
+            return 0;
+    for (int r = 0; r < DECK_RUNS; r++)
+        if (record->counts[r] != count[r] || count[r] > record->lengths[r])
+            return 0;
+    return 1;
 }
 
 /* each run taken back is withdrawn, and no step of it is kept */

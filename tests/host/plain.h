@@ -37,6 +37,10 @@ plain_refusal plain_read(const uint8_t *s, size_t len, plain_book *b);
 /* The same as it was before transfers: 54 is no command, and steps conflict by their first touches. */
 plain_refusal plain_read_singles(const uint8_t *s, size_t len, plain_book *b);
 
+/* Whether a step is a transfer; whether a touch of it homes. */
+int plain_is_transfer(const step_record *step);
+int plain_homes(const step_record *step);
+
 /* How many of the book's steps are so. */
 int plain_count(const plain_book *b, int (*is)(const step_record *step));
 

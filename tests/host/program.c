@@ -1,13 +1,14 @@
-/* Runs the built program on many books from a fixed seed, whole and damaged, and compares what it writes with what plain.c says.
-     program DECK FILE       FILE is where each book is put for the program to read
-   Prints 'N passed, M failed', a count of books, and how many arcs of the printed cycles have each letter; it fails where one of these counts is 0. */
+/* Runs the built program on many books from a seed, whole and damaged, and compares what it writes with what plain.c says.
+     program [-s SEED] [-n BOOKS] DECK FILE       FILE is where each book is put for the program to read
+   Prints 'N passed, M failed', a count of books, and how many arcs of the printed cycles have each letter. It fails where one of these counts is 0, unless
+   there are fewer books than by default; that of I, which is rare in a cycle, may be 0 by another seed too. */
 #include "books.h"
 #include "plain.h"
 #include <stdio.h>
 #include <stdlib.h>
 #include <string.h>
 
-enum { TEXT = 4096, BOOKS = 8000 };
+enum { TEXT = 4096, BOOKS = 8000, SEED = 1998 }; /* by this seed each letter is printed */
 
 static const char *deck, *file;
 
@@ -108,17 +109,16 @@ static void compare(source *s, const uint8_t *book, size_t len) {
 }
 
 int main(int argc, char **argv) {
-    if (argc != 3) {
-        fprintf(stderr, "usage: program DECK FILE\n");
-        return 2;
-    }
-    deck = argv[1];
-    file = argv[2];
-    int status = test_books(1998, BOOKS, compare); /* by this seed each letter is printed; an I arc is rare in a cycle */
+    selection chosen = by_default(SEED, BOOKS);
+    char **operands = read_options(argc, argv, " DECK FILE", 2, 2, &chosen);
+    deck = operands[0];
+    file = operands[1];
+    int status = test_books(&chosen, compare);
     remove(file);
     for (int k = 0; k < LETTERS; k++) {
         printf("arcs printed as %s: %ld\n", letters[k].letter, letters[k].printed);
-        status |= none(letters[k].printed, letters[k].letter, "with such an arc");
+        if (letters[k].arc != DECK_ARC_I || chosen.seed == SEED)
+            status |= none(letters[k].printed, letters[k].letter, "with such an arc");
     }
     return status;
 }

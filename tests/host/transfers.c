@@ -1,10 +1,10 @@
-/* Compares the proved calls with plain.c on the books in the files that are given, of raw bytes, and on many books from a fixed seed, whole, damaged and
-   over the limits. A book without a transfer is compared with plain.c as it was before transfers, and where it is accepted once more with each step written
+/* Compares the proved calls with plain.c on the books in the files that are given, of raw bytes, and on many books from a seed, whole, damaged and over
+   the limits. A book without a transfer is compared with plain.c as it was before transfers, and where it is accepted once more with each step written
    as a transfer of two equal touches, which has to give what the steps gave. A book with a transfer is compared with plain.c as it is; the reader before
    transfers has to refuse it by 2 at the first 54.
-     transfers FILE..
+     transfers [-s SEED] [-n BOOKS] FILE..
    Prints 'N passed, M failed', a count of books, and how many there were of each sort, and for how many accepted ones with a transfer an answer is another
-   than by the first touches alone. It fails where one of these counts is 0, and where no file is given. */
+   than by the first touches alone. It fails where one of these counts is 0, unless there are fewer books from the seed than by default. */
 #include "compare.h"
 
 enum { BOOKS = 8000, SEED = 20261119 };
@@ -18,22 +18,6 @@ static book_count counts[COUNTS] = {
     [HOMES] = {"accepted books in which a second touch homes", 0},
     [WITH] = {"accepted books with a transfer, beside what they give by the first touches alone", 0},
 };
-
-/* The number of bytes of a command other than 54; 0 for 45, behind which there is none, and for a byte that is no command. */
-static size_t command_size(uint8_t command) {
-    switch (command) {
-    case 0x52:
-    case 0x48:
-        return 2;
-    case 0x43:
-        return 3;
-    case 0x53:
-    case 0x42:
-        return 4;
-    default:
-        return 0;
-    }
-}
 
 /* The offset of the first 54 behind whole commands, or the length where there is none. */
 static size_t first_transfer(const uint8_t *book, size_t len) {
@@ -50,7 +34,7 @@ static int comes_to(size_t first, size_t len, plain_refusal r) {
     return first < len && r.number != DECK_BOOK_TOO_LONG && (r.number == 0 || r.place >= first);
 }
 
-static int second_touch_homes(const step_record *step) { return step->touches == 2 && step->touch[1].position == DECK_HOME; }
+static int second_touch_homes(const step_record *step) { return plain_is_transfer(step) && step->touch[1].position == DECK_HOME; }
 
 /* Compares a book without a transfer with plain.c as it was before transfers. */
 static void compare_without(source *s, const uint8_t *book, size_t len, const plain_book *b, plain_refusal r) {
@@ -93,4 +77,4 @@ static void compare(source *s, const uint8_t *book, size_t len) {
         compare_without(s, book, len, &before, earlier);
 }
 
-int main(int argc, char **argv) { return test_rules(argc, argv, SEED, BOOKS, compare, counts, COUNTS); }
+int main(int argc, char **argv) { return test_rules(argc, argv, by_default(SEED, BOOKS), compare, counts, COUNTS); }

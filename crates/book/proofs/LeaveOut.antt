@@ -18,13 +18,13 @@ use Rattle.book.specs.declared.Book.{Book}
 use Rattle.book.proofs.Books.{length-is, history-is, done-within, history-long, count-is}
 use Rattle.book.proofs.WithHistory.{Filled, none-filled, filled-place, filled-fits, filled-more, all-filled}
 
-module _ (b : Book) (out : List ℕ) where
+module _ (b : Book) (flags : List ℕ) where
   -- the steps that stay, of the first i of the history and of all
   abbrev pub front : ℕ → List ℕ
-  front i = project (unflagged out) (take i (contents-of b .history))
+  front i = project (unflagged flags) (take i (contents-of b .history))
 
   abbrev pub others : List ℕ
-  others = project (unflagged out) (contents-of b .history)
+  others = project (unflagged flags) (contents-of b .history)
 
   -- the first i of the history are gone through, and the tables hold the n of them that stay
   pub record LeftOut (ns h : List ℕ) (n i : ℕ) : Type 0 where
@@ -38,7 +38,7 @@ module _ (b : Book) (out : List ℕ) where
 
   module _ (v : Valid b) where
     others-allowed : Allowed others (contents-of b)
-    others-allowed r = omega (arith, project-within (unflagged out) (contents-of b .history) r, count-is b v r, v .history .within r, length-is b v r)
+    others-allowed r = omega (arith, project-within (unflagged flags) (contents-of b .history) r, count-is b v r, v .history .within r, length-is b v r)
 
     pub place-inside : (i : ℕ) → i < b .done → i < step-limit
     place-inside i l = omega (arith, done-within b v)
@@ -54,33 +54,33 @@ module _ (b : Book) (out : List ℕ) where
       pub flag-inside : r < run-limit
       flag-inside = omega (arith, v .history .history .small i)
 
-      next-front : front (i + 1) ≡ front i ++ only (unflagged out r) r []
+      next-front : front (i + 1) ≡ front i ++ only (unflagged flags r) r []
       unfolding project
       next-front =
-          ap front (add-one i) ∙ ap (project (unflagged out)) (take-suc (contents-of b .history) i 0 inside ∙ ap (λ (x : ℕ). take i (contents-of b .history) ++ x ∷ []) run-is)
-          ∙ project-append (unflagged out) (take i (contents-of b .history)) (r ∷ [])
+          ap front (add-one i) ∙ ap (project (unflagged flags)) (take-suc (contents-of b .history) i 0 inside ∙ ap (λ (x : ℕ). take i (contents-of b .history) ++ x ∷ []) run-is)
+          ∙ project-append (unflagged flags) (take i (contents-of b .history)) (r ∷ [])
 
-      all-others : others ≡ front i ++ only (unflagged out r) r (project (unflagged out) (drop (suc i) (contents-of b .history)))
+      all-others : others ≡ front i ++ only (unflagged flags r) r (project (unflagged flags) (drop (suc i) (contents-of b .history)))
       unfolding project
       all-others =
-          ap (project (unflagged out)) (split-at (contents-of b .history) i 0 inside ∙ ap (λ (x : ℕ). take i (contents-of b .history) ++ x ∷ drop (suc i) (contents-of b .history)) run-is)
-          ∙ project-append (unflagged out) (take i (contents-of b .history)) (r ∷ drop (suc i) (contents-of b .history))
+          ap (project (unflagged flags)) (split-at (contents-of b .history) i 0 inside ∙ ap (λ (x : ℕ). take i (contents-of b .history) ++ x ∷ drop (suc i) (contents-of b .history)) run-is)
+          ∙ project-append (unflagged flags) (take i (contents-of b .history)) (r ∷ drop (suc i) (contents-of b .history))
 
       -- the step is left out
-      pub one-left-out : (ns′ h′ : List ℕ) (n′ : ℕ) → (getD out r 0 ≡ 0 → ⊥) → ns′ ≡ ns → h′ ≡ h → n′ ≡ n → LeftOut ns′ h′ n′ (i + 1)
+      pub one-left-out : (ns′ h′ : List ℕ) (n′ : ℕ) → (getD flags r 0 ≡ 0 → ⊥) → ns′ ≡ ns → h′ ≡ h → n′ ≡ n → LeftOut ns′ h′ n′ (i + 1)
       one-left-out ns′ h′ n′ f p q s = rw (p, q, s) (record {
         within = omega arith;
-        place = ap length next-front ∙ rw (ne-eqb (getD out r 0) 0 f) (omega (arith, length-append (front i) [], w .place));
+        place = ap length next-front ∙ rw (ne-eqb (getD flags r 0) 0 f) (omega (arith, length-append (front i) [], w .place));
         filled = w .filled;
       })
 
       -- the step stays
-      module _ (f : getD out r 0 ≡ 0) where
-        stays : others ≡ front i ++ r ∷ project (unflagged out) (drop (suc i) (contents-of b .history))
-        stays = rw (eq-eqb (getD out r 0) 0 f) at all-others
+      module _ (f : getD flags r 0 ≡ 0) where
+        stays : others ≡ front i ++ r ∷ project (unflagged flags) (drop (suc i) (contents-of b .history))
+        stays = rw (eq-eqb (getD flags r 0) 0 f) at all-others
 
         next-place : n < length others
-        next-place = rw stays (omega (arith, length-append (front i) (r ∷ project (unflagged out) (drop (suc i) (contents-of b .history))), w .place))
+        next-place = rw stays (omega (arith, length-append (front i) (r ∷ project (unflagged flags) (drop (suc i) (contents-of b .history))), w .place))
 
         next-is : r ≡ getD others n 0
         next-is = sym (ap (λ (k : List ℕ). getD k n 0) stays ∙ getD-at (front i) r _ 0 n (w .place))
@@ -97,10 +97,10 @@ module _ (b : Book) (out : List ℕ) where
         pub one-stays : (ns′ h′ : List ℕ) (n′ : ℕ) → ns′ ≡ set ns r (getD ns r 0 + 1) → h′ ≡ set h n (getD (b .history) i 0) → n′ ≡ n + 1 → LeftOut ns′ h′ n′ (i + 1)
         one-stays ns′ h′ n′ p q s = rw (p, q, s, ← e) (record {
           within = omega arith;
-          place = ap length next-front ∙ rw (eq-eqb (getD out r 0) 0 f) (omega (arith, length-append (front i) (r ∷ []), w .place));
+          place = ap length next-front ∙ rw (eq-eqb (getD flags r 0) 0 f) (omega (arith, length-append (front i) (r ∷ []), w .place));
           filled = rw (← next-is) at (filled-more b others ns h n r v others-allowed (w .filled) next-place next-is);
         })
 
     module _ (ns h : List ℕ) (n i : ℕ) (w : LeftOut ns h n i) where
       pub all-left-out : b .done ≤ i → Represents (with-history (contents-of b) others) (set-history b ns h n)
-      all-left-out l = all-filled b others ns h n v (w .filled) (omega (arith, w .place, ap (λ (k : List ℕ). length (project (unflagged out) k)) (take-all i (contents-of b .history) (omega (arith, history-long b v)))))
+      all-left-out l = all-filled b others ns h n v (w .filled) (omega (arith, w .place, ap (λ (k : List ℕ). length (project (unflagged flags) k)) (take-all i (contents-of b .history) (omega (arith, history-long b v)))))

@@ -293,10 +293,10 @@ pub fn with_history(mut b: Book, list: &[u8]) -> Book
     b
 }
 
-// The book whose history lacks the steps of the runs whose flag in `out` is not 0; the others stay in order.
-pub fn leave_out(mut b: Book, out: [u8; Book::RUNS]) -> Book
+// The book whose history lacks the steps of the runs whose flag is not 0; the others stay in order.
+pub fn leave_out(mut b: Book, flags: [u8; Book::RUNS]) -> Book
     requires { ⌜ Valid b ⌝ }
-    ensures { λ r. ⌜ Represents (with-history (contents-of b) (project (unflagged out) (contents-of b .history))) r ⌝ }
+    ensures { λ r. ⌜ Represents (with-history (contents-of b) (project (unflagged flags) (contents-of b .history))) r ⌝ }
 {
     let done = b.done;
     let mut counts = [0u8; Book::RUNS];
@@ -306,7 +306,7 @@ pub fn leave_out(mut b: Book, out: [u8; Book::RUNS]) -> Book
     while i < done {
         let run = b.history[i];
         let r = wide(run);
-        if out[r] == 0 {
+        if flags[r] == 0 {
             history[n] = run;
             counts[r] += 1;
             n += 1;

@@ -19,10 +19,10 @@ use Rattle.evidence.specs.declared.Named.the-variants.{Arcs}
 use Rattle.writer.specs.Written.{written-numbers}
 use Rattle.writer.specs.declared.Written.{Written}
 use Rattle.gate.specs.Gate.{reply-numbers, OpenedAs}
-use Rattle.gate.specs.Replay.{played-numbers}
+use Rattle.replay.specs.Replay.{played-numbers}
 use Rattle.gate.specs.declared.Opened.{Opened}
 use Rattle.gate.specs.declared.Reply.{Reply}
-use Rattle.gate.specs.declared.Played.{Played}
+use Rattle.replay.specs.declared.Played.{Played}
 use Rattle.judge.specs.Judged.{verdict-numbers}
 use Rattle.judge.specs.declared.Verdict.{Verdict}
 use Rattle.judge.specs.declared.Verdict.the-variants.{Passed, Tangled, Refused as NotJudged}

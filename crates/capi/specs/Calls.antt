@@ -9,13 +9,13 @@ use Rattle.classes.specs.declared.Tested.{Tested}
 use Rattle.names.specs.declared.ArcNames.{ArcNames}
 use Rattle.evidence.specs.Named.{named-numbers, NamedAs}
 use Rattle.evidence.specs.declared.Named.{Named}
-use Rattle.gate.specs.Plain.{Call}
+use Rattle.plain.specs.Plain.{Call}
 use Rattle.gate.specs.Gate.{reply-numbers, opening-numbers, OpenedAs, CalledAs}
-use Rattle.gate.specs.Replay.{played-numbers, Replays}
+use Rattle.replay.specs.Replay.{played-numbers, Replays}
 use Rattle.gate.specs.declared.Gate.{Gate}
 use Rattle.gate.specs.declared.Opened.{Opened}
 use Rattle.gate.specs.declared.Reply.{Reply}
-use Rattle.gate.specs.declared.Replayed.{Replayed}
+use Rattle.replay.specs.declared.Replayed.{Replayed}
 use Rattle.judge.specs.Judged.{verdict-numbers}
 use Rattle.judge.specs.Judge.{BytesJudged}
 use Rattle.judge.specs.declared.Judgement.{Judgement}

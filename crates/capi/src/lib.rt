@@ -4,24 +4,24 @@ use book::Cause;
 use classes::Tested;
 use evidence::Named;
 use gate::Gate;
-use gate::Played;
 use gate::Reply;
 use judge::Judgement;
 use judge::Verdict;
+use replay::Played;
 use writer::Written;
 ghost use mathlib.Core.Path.{_≡_};
 ghost use Rattle.theory.specs.Relative.{RelativelySerialOrder};
 ghost use Rattle.theory.specs.Graph.{Cycle};
 ghost use Rattle.book.specs.Numbers.{refused-with, value-of};
 ghost use Rattle.book.specs.Meaning.{conflict-of, unit-of, SerialHistory, RelativelyAtomicHistory, RelativelySerialHistory, ConflictSerializableHistory};
-ghost use Rattle.gate.specs.Plain.{step as step-call, withdraw as withdraw-call, take-back as take-back-call};
+ghost use Rattle.plain.specs.Plain.{step as step-call, withdraw as withdraw-call, take-back as take-back-call};
 ghost use Rattle.classes.specs.Tested.{tested-numbers};
 ghost use Rattle.names.specs.Names.{names-of};
 ghost use Rattle.evidence.specs.Named.{named-numbers};
 ghost use Rattle.writer.specs.Written.{written-numbers};
 ghost use Rattle.judge.specs.Judged.{verdict-numbers};
 ghost use Rattle.gate.specs.Gate.{reply-numbers};
-ghost use Rattle.gate.specs.Replay.{played-numbers};
+ghost use Rattle.replay.specs.Replay.{played-numbers};
 ghost use Rattle.capi.specs.Numbers.{answered, judged};
 ghost use Rattle.capi.specs.Calls.{ReadCall, TestCall, NameCall, JudgeCall, WriteCall, OpenCall, GateCall, ReplayCall};
 
@@ -281,7 +281,7 @@ pub extern "C" fn deck_take_back(g: &mut Gate, run: u8) -> Answered
 pub extern "C" fn deck_replay(s: &[u8], calls: &[u8], answers: &mut [u8]) -> Answered
     ensures { λ r. ⌜ ReplayCall (now (s .entry)) (now (calls .entry)) (now (answers .entry)) (now (answers .exit)) r ⌝ }
 {
-    let replayed = gate::replay(s, calls, answers);
+    let replayed = replay::replay(s, calls, answers);
     let played = replayed.played;
     of_played(played)
 }

@@ -12,7 +12,7 @@ use Rattle.theory.specs.Graph.{ArcI, ArcD, ArcF, ArcB, arc-I, arc-D, arc-F, arc
 use Rattle.theory.specs.Rows.{Is}
 use Rattle.theory.proofs.Decided.{arc-source, arc-target}
 use Rattle.book.specs.Format.{Contents, Outcome, refused, accepted, read}
-use Rattle.book.specs.Numbers.{Numbers}
+use Rattle.book.specs.Numbers.{Numbers, value-of}
 use Rattle.book.specs.Meaning.{conflict-of, unit-of}
 use Rattle.names.specs.Names.{names-value, cycle-names}
 use Rattle.names.specs.declared.ArcNames.{ArcNames}
@@ -25,14 +25,17 @@ use Rattle.classes.specs.declared.Tested.the-variants.{Yes, No, Refused as NotT
 use Rattle.evidence.specs.Named.{named-numbers, OutcomeNamed, NamedAs}
 use Rattle.evidence.specs.declared.Named.{Named}
 use Rattle.evidence.specs.declared.Named.the-variants.{Arcs, Refused as NotNamed}
-use Rattle.report.specs.Text.{Findings, accepted-with, Verdict, tangled, first-letter, done-line, serial-line, atomic-line, relserial-line, conflict-line, verdict-line, evidence-line, arcs-line, text-of}
+use Rattle.judge.specs.declared.Verdict.{Verdict}
+use Rattle.judge.specs.declared.Verdict.the-variants.{Passed, Tangled}
+use Rattle.report.specs.Text.{Findings, accepted-with, Verdict as ReportVerdict, tangled, first-letter, done-line, serial-line, atomic-line, relserial-line, conflict-line, verdict-line, evidence-line, arcs-line, text-of}
 use Rattle.report.specs.Reporting.{VerdictOn, ReportOn, Reports}
 use Rattle.capi.specs.Calls.{TestCall, NameCall}
 use Rattle.capi.specs.declared.Answered.{Answered}
 use Rattle.report.proofs.FindingsLaws.{answer-is}
 use Rattle.buffer.proofs.EachLaws.{each-map}
 use Rattle.claims.specs.Demands.{answered-numbers}
-use Rattle.claims.specs.ArcsByName.{arcs-from, ArcFrom, AllThatHold, FirstHolds, letter-I, letter-D, letter-F, letter-B, Lettered, cycle-text, arcs-text, ArcsUnder, ArcsByName}
+use Rattle.claims.specs.ArcsByName.{arcs-from, ArcFrom, AllThatHold, SomeName, CycleByNames, CycleBefore, FirstHolds, letter-I, letter-D, letter-F, letter-B, Lettered, cycle-text, arcs-text, ArcsUnder, ArcsByName}
+use Rattle.claims.proofs.Demands.{demand-2, deck-demand-2}
 
 -- ---- what is said of an accepted book
 
@@ -149,6 +152,43 @@ module _ (s : List ℕ) (x y : ℕ) (r t : Answered) (w : NameCall (arcs-from x 
   deck-refused-before : (answered-numbers r .number ≡ answered-numbers t .number) × (answered-numbers r .place ≡ answered-numbers t .place)
   deck-refused-before = rw (named, tested) (refused-before s x y (w .named) (v .tested) (w .promise) (v .promise))
 
+-- ---- cycles
+
+module _ (c : Contents) where
+  some-name : (x y : ℕ) → ArcFrom x y c ↔ SomeName c x y
+  some-name x y = some c x y (arcs-from x y c) (holding c x y)
+
+  same-cycles : (l : List ℕ) → CycleByNames c l ↔ CycleBefore l c
+  same-cycles l = (
+    λ k. record { least = k .least; most = k .most; distinct = k .distinct; next = λ i m. some-name _ _ .1 (k .next i m); back = some-name _ _ .1 (k .back) },
+    λ k. record { least = k .least; most = k .most; distinct = k .distinct; next = λ i m. some-name _ _ .0 (k .next i m); back = some-name _ _ .0 (k .back) },
+  )
+
+-- a test of two properties that are the same
+same-answer : {P Q : Type 0} → P ↔ Q → (r : Tested) → YesWhere P r → YesWhere Q r
+same-answer e (NotTested cause at) w = absurd w
+same-answer e Yes w = e .0 w
+same-answer e No w = λ q. w (e .1 q)
+
+same-test : (P Q : Contents → Type 0) → ((c : Contents) → P c ↔ Q c) → (s : List ℕ) (r : Tested) → TestedAs P s r → TestedAs Q s r
+same-test P Q e s r w = record { tested = go (read s) (w .tested) }
+  where
+    go : (o : Outcome) → OutcomeTested o P r → OutcomeTested o Q r
+    go (refused cause at) t = t
+    go (accepted c) t = same-answer (e c) r t
+
+same-call : (P Q : Contents → Type 0) → ((c : Contents) → P c ↔ Q c) → (s : List ℕ) (r : Answered) → TestCall P s r → TestCall Q s r
+same-call P Q e s r w = record { tested = w .tested; promise = same-test P Q e s (w .tested) (w .promise); numbers = w .numbers }
+
+other-way : {P Q : Contents → Type 0} → ((c : Contents) → P c ↔ Q c) → (c : Contents) → Q c ↔ P c
+other-way e c = (e c .1, e c .0)
+
+not-passed : {v : Verdict} → v ≡ Tangled → v ≢ Passed
+not-passed t p = let z : _≡_ {A = ℕ} 0 1 = cc in omega arith
+
+not-1 : {n : Numbers} → n ≡ value-of 2 → n ≢ value-of 1
+not-1 t p = let z = ap (λ (k : Numbers). k .value) (sym t ∙ p) in omega arith
+
 -- ---- beyond the done steps
 
 no-arc : (c : Contents) (x y : ℕ) → (length (c .history) ≤ x) ⊎ (length (c .history) ≤ y) → ¬ ArcFrom x y c
@@ -203,7 +243,7 @@ text-ends f cycle names e =
     eight (done-line (f .done)) (serial-line (f .serial)) (atomic-line (f .atomic)) (relserial-line (f .relserial)) (conflict-line (f .conflict)) (verdict-line (f .verdict)) (evidence-line (f .verdict)) (arcs-line (f .verdict))
     ∙ ap (λ (l : List ℕ). above f ++ l) (lines (f .verdict) e)
   where
-    lines : (v : Verdict) → v ≡ tangled cycle names → evidence-line v ++ arcs-line v ≡ cycle-text cycle ++ arcs-text (map first-letter names)
+    lines : (v : ReportVerdict) → v ≡ tangled cycle names → evidence-line v ++ arcs-line v ≡ cycle-text cycle ++ arcs-text (map first-letter names)
     lines v q = rw (q, each-map (λ (x : ℕ). 0x20 ∷ x ∷ []) first-letter names)
 
 text-lettered : (s : List ℕ) (c : Contents) → read s ≡ accepted c → (text text′ : List ℕ) (n : ℕ) (r : Reports (read s) text text′ n) → (f : Findings) (cycle : List ℕ) (names : List ArcNames)
@@ -235,5 +275,16 @@ arcs-by-name = record {
   deck-refused-before = deck-refused-before;
   beyond = λ s c e x y r w l. ap (λ (z : Named). named-numbers z .value) (named-of (arcs-from x y) s c e r w) ∙ none-beyond c x y l;
   deck-beyond = λ s c e x y r w l. ap (λ (z : Answered). answered-numbers z .value) (w .numbers) ∙ ap (λ (z : Named). named-numbers z .value) (named-of (arcs-from x y) s c e (w .named) (w .promise)) ∙ none-beyond c x y l;
+  same-cycles = same-cycles;
+  checked-as-before = λ s l r. (
+    same-test (λ c. CycleByNames c l) (CycleBefore l) (λ c. same-cycles c l) s r,
+    same-test (CycleBefore l) (λ c. CycleByNames c l) (other-way (λ c. same-cycles c l)) s r,
+  );
+  deck-checked-as-before = λ s l r. (
+    same-call (λ c. CycleByNames c l) (CycleBefore l) (λ c. same-cycles c l) s r,
+    same-call (CycleBefore l) (λ c. CycleByNames c l) (other-way (λ c. same-cycles c l)) s r,
+  );
+  judged-by-names = λ s c e order order′ cycle cycle′ r a b j t. same-cycles c (take (r .count) cycle′) .1 (demand-2 s c e order order′ cycle cycle′ r a b j .cycle-returned (not-passed t));
+  deck-judged-by-names = λ s c e order order′ cycle cycle′ r a b j t. same-cycles c (take (r .count) cycle′) .1 (deck-demand-2 s c e order order′ cycle cycle′ r a b j .cycle-returned (not-1 t));
   lettered = text-lettered;
 }

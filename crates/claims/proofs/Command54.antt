@@ -9,7 +9,7 @@ use Rattle.theory.specs.Deck.{Touch, Step, single, transfer}
 use Rattle.theory.specs.Transfers.{only, first, second}
 use Rattle.book.specs.Format.{step, ReadState, last, lengths, add-last}
 use Rattle.book.proofs.Sizes.{sum-last}
-use Rattle.claims.specs.Table.{Fault, inside-operands, after-later-group, before-any-52, kind-above-15, step-33-of-run, step-129}
+use Rattle.table.specs.BookTable.{Fault, inside-operands, after-later-group, before-any-52, kind-above-15, step-33-of-run, step-over-most}
 use Rattle.claims.specs.Command54.{Command54}
 
 module _ (s : List ℕ) (at : ℕ) (t : ReadState) (u v : Touch) where
@@ -20,7 +20,7 @@ module _ (s : List ℕ) (at : ℕ) (t : ReadState) (u v : Touch) where
   to-single n k (kind-above-15 first h) = inl (kind-above-15 only h)
   to-single n k (kind-above-15 second h) = inr (kind-above-15 only h)
   to-single n k (step-33-of-run h) = inl (step-33-of-run h)
-  to-single n k (step-129 h) = inl (step-129 h)
+  to-single n k (step-over-most h) = inl (step-over-most h)
 
   from-first : (n : ℕ) → n ≢ 3 → Fault s at t (step (single u)) n → Fault s at t (step (transfer u v)) n
   from-first n k (inside-operands h) = absurd (k refl)
@@ -28,7 +28,7 @@ module _ (s : List ℕ) (at : ℕ) (t : ReadState) (u v : Touch) where
   from-first n k (before-any-52 h) = before-any-52 h
   from-first n k (kind-above-15 only h) = kind-above-15 first h
   from-first n k (step-33-of-run h) = step-33-of-run h
-  from-first n k (step-129 h) = step-129 h
+  from-first n k (step-over-most h) = step-over-most h
 
   from-second : (n : ℕ) → n ≢ 3 → Fault s at t (step (single v)) n → Fault s at t (step (transfer u v)) n
   from-second n k (inside-operands h) = absurd (k refl)
@@ -36,7 +36,7 @@ module _ (s : List ℕ) (at : ℕ) (t : ReadState) (u v : Touch) where
   from-second n k (before-any-52 h) = before-any-52 h
   from-second n k (kind-above-15 only h) = kind-above-15 second h
   from-second n k (step-33-of-run h) = step-33-of-run h
-  from-second n k (step-129 h) = step-129 h
+  from-second n k (step-over-most h) = step-over-most h
 
   from-single : (n : ℕ) → n ≢ 3 → Fault s at t (step (single u)) n ⊎ Fault s at t (step (single v)) n → Fault s at t (step (transfer u v)) n
   from-single n k (inl f) = from-first n k f

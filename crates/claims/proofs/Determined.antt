@@ -1,6 +1,6 @@
 -- Each public call's contract has one result, the judge's choice of a cycle apart.
-use Prim.Native.Nat.{ℕ, _≤_, _<_}
-use native.Mathlib.Decide.{decLt}
+use Prim.Native.Nat.{ℕ, _+_, _-_, _≤_, _<_}
+use native.Mathlib.Decide.{decLt, ℕ-discrete}
 use native.Mathlib.Omega.{arith}
 use mathlib.Core.Path.{_≡_, refl, ap, ap₂, sym, _∙_}
 use mathlib.Core.Logic.{_⊎_, inl, inr, _≢_}
@@ -8,14 +8,17 @@ use mathlib.Core.Bool.{Bool, true, false}
 use mathlib.Core.List.{List}
 use lib.ListN.{length, drop}
 use lib.Seq.{drop-append-seam}
-use Rattle.theory.specs.Relative.{RelativelySerialOrder, RelativelySerializable}
+use Rattle.bits.specs.Table.{row-bits, rows, bit-at}
+use Rattle.bits.proofs.Store.{bit-at-lt}
+use Rattle.theory.specs.Deck.{Pair, Step, conflict}
+use Rattle.theory.specs.Relative.{Depends, RelativelySerialOrder, RelativelySerializable}
 use Rattle.theory.specs.Graph.{Greedy}
 use Rattle.theory.specs.Rows.{Is}
 use Rattle.theory.proofs.Places.{order-length}
 use Rattle.theory.proofs.Greedy.{greedy-unique}
-use Rattle.book.specs.Format.{Contents, Outcome, refused, accepted, step-limit, read}
+use Rattle.book.specs.Format.{Contents, Outcome, refused, accepted, kind-limit, step-limit, read}
 use Rattle.book.specs.Meaning.{conflict-of, unit-of}
-use Rattle.book.specs.Book.{Valid, outcome-by, ReadAs}
+use Rattle.book.specs.Book.{Valid, pairs-of, outcome-by, ReadAs}
 use Rattle.book.specs.declared.Cause.{Cause}
 use Rattle.book.specs.declared.Cause.the-variants.{JudgeBufferShort}
 use Rattle.book.specs.declared.Book.{Book}
@@ -23,6 +26,9 @@ use Rattle.book.specs.declared.Answer.{Answer as BookAnswer}
 use Rattle.book.specs.declared.Answer.the-variants.{Refused as NotRead, Accepted}
 use Rattle.book.proofs.Numbers.{cause-of, cause-back}
 use Rattle.book.proofs.Determined.{determined}
+use Rattle.dependence.specs.Marks.{Marks}
+use Rattle.dependence.specs.Catalogue.{part-rows, Which, first-touches, second-touches, PartIs, PairedWith, Catalogued}
+use Rattle.dependence.specs.Dependence.{StepsRead}
 use Rattle.judge.specs.Judged.{verdict-numbers, JudgedAs}
 use Rattle.judge.specs.Judge.{RefusedAs, OutcomeJudged, BytesJudged}
 use Rattle.judge.specs.declared.Judgement.{Judgement}
@@ -37,17 +43,17 @@ use Rattle.evidence.specs.Named.{named-numbers, OutcomeNamed}
 use Rattle.evidence.specs.declared.Named.{Named}
 use Rattle.writer.specs.Written.{written-numbers}
 use Rattle.writer.specs.declared.Written.{Written}
-use Rattle.gate.specs.Plain.{Call, Answer, place, withdrawn, taken-back, refused as refused-by}
+use Rattle.plain.specs.Plain.{Call, Answer, place, withdrawn, taken-back, refused as refused-by}
 use Rattle.gate.specs.Gate.{answer-of, reply-numbers, opening-numbers, book-of, state-of, OpenedAs, CalledAs, on-sound, on-damaged}
-use Rattle.gate.specs.Replay.{played-numbers, played-by, Replays}
+use Rattle.replay.specs.Replay.{played-numbers, played-by, Replays}
 use Rattle.gate.specs.declared.Gate.{Gate}
 use Rattle.gate.specs.declared.Opened.{Opened}
 use Rattle.gate.specs.declared.Reply.{Reply}
 use Rattle.gate.specs.declared.Reply.the-variants.{Place, Withdrawn, TakenBack, Refused as CallRefused}
-use Rattle.gate.specs.declared.Played.{Played}
-use Rattle.gate.specs.declared.Played.the-variants.{Done, Refused as NotReplayed}
-use Rattle.gate.specs.declared.Replayed.{Replayed}
-use Rattle.gate.proofs.PlainGate.{single, single-calls}
+use Rattle.replay.specs.declared.Played.{Played}
+use Rattle.replay.specs.declared.Played.the-variants.{Done, Refused as NotReplayed}
+use Rattle.replay.specs.declared.Replayed.{Replayed}
+use Rattle.plain.proofs.PlainGate.{single, single-calls}
 use Rattle.gate.proofs.Unchanged.{same-record}
 use Rattle.report.specs.Text.{Findings, Report, refused-at, accepted-with, Verdict as ReportVerdict, passed, tangled, text-of}
 use Rattle.report.specs.Reporting.{VerdictOn, FindingsOn, ReportOn}
@@ -55,7 +61,8 @@ use Rattle.capi.specs.Numbers.{answered, opened-gate}
 use Rattle.capi.specs.Calls.{JudgeCall}
 use Rattle.capi.specs.declared.Judged.{Judged}
 use Rattle.claims.specs.Demands.{judged-numbers}
-use Rattle.claims.specs.Determined.{AtMostOne, AtMostOnePair, EqualButCycle, verdict-alone, without-cycle, cycle-in, cycle-of, Determined}
+use Rattle.claims.specs.Determined.{AtMostOne, AtMostOnePair, EqualButCycle, verdict-alone, without-cycle, cycle-in, cycle-of, SameBits, FromBlank, Determined}
+use Rattle.claims.proofs.OnePass.{all-read}
 
 -- ---- reading
 
@@ -280,6 +287,52 @@ cyclic-report (accepted c) (accepted-with f) (refused-at n at) w w′ e = absurd
 cyclic-report (accepted c) (accepted-with v) (accepted-with v′) w w′ e =
     one-findings c v v′ w w′ (cyclic-verdict c (v .verdict) (v′ .verdict) (w .verdict-is) (w′ .verdict-is) (one-verdict c (v .verdict) (v′ .verdict) (w .verdict-is) (w′ .verdict-is)) e)
 
+-- ---- tables
+
+-- two bits that are 1 together are the same
+one-bit : (b b′ : ℕ) → b < 2 → b′ < 2 → (b ≡ 1 → b′ ≡ 1) → (b′ ≡ 1 → b ≡ 1) → b ≡ b′
+one-bit b b′ l l′ f g = go (ℕ-discrete b 1) (ℕ-discrete b′ 1)
+  where
+    go : Dec (b ≡ 1) → Dec (b′ ≡ 1) → b ≡ b′
+    go (yes e) d = e ∙ sym (f e)
+    go (no n) (yes e) = absurd (n (g e))
+    go (no n) (no m) = omega arith
+
+module _ (t t′ : List ℕ) where
+  -- at one row and column
+  same-at : (x y : ℕ) (P : Type 0) → (bit-at t y x ≡ 1 → P) → (P → bit-at t y x ≡ 1) → (bit-at t′ y x ≡ 1 → P) → (P → bit-at t′ y x ≡ 1) → bit-at t y x ≡ bit-at t′ y x
+  same-at x y P f g f′ g′ = one-bit (bit-at t y x) (bit-at t′ y x) (bit-at-lt t y x) (bit-at-lt t′ y x) (λ e. g′ (f e)) (λ e. g (f′ e))
+
+  marks-same : (R : ℕ → ℕ → Type 0) → Marks R t → Marks R t′ → SameBits t t′
+  marks-same R m m′ = record { same = λ x y a b. same-at x y (R x y) (m .sound x y a b) (m .complete x y a b) (m′ .sound x y a b) (m′ .complete x y a b) }
+
+  module _ (pairs : List Pair) (w : Which) (runs : List (List Step)) (l : List ℕ) (k : Catalogued pairs w runs l t) (k′ : Catalogued pairs w runs l t′) where
+    kind-row : (x v y : ℕ) → x < row-bits → v < kind-limit → part-rows + v ≡ y → bit-at t y x ≡ bit-at t′ y x
+    kind-row x v y a b e =
+        rw (← e) (same-at x (part-rows + v) (PairedWith pairs w runs l x v) (k .kinds-sound x v a b) (k .kinds-complete x v a b) (k′ .kinds-sound x v a b) (k′ .kinds-complete x v a b))
+
+    catalogues-same : SameBits t t′
+    catalogues-same = record { same = λ x y a b. go x y a b (decLt y part-rows) (decLt y (part-rows + kind-limit)) }
+      where
+        go : (x y : ℕ) → x < row-bits → y < rows → Dec (y < part-rows) → Dec (y < part-rows + kind-limit) → bit-at t y x ≡ bit-at t′ y x
+        go x y a b (yes p) d = same-at x y (PartIs w runs l x y) (k .sound x y a p) (k .complete x y a p) (k′ .sound x y a p) (k′ .complete x y a p)
+        go x y a b (no n) (yes q) = kind-row x (y - part-rows) y a (omega arith) (omega arith)
+        go x y a b (no n) (no m) = k .no-more x y a (omega arith) b ∙ sym (k′ .no-more x y a (omega arith) b)
+
+read-from-blank : (pairs : List ℕ) (runs : List (List Step)) (l c s d : List ℕ) → FromBlank pairs runs l c s d → StepsRead (pairs-of pairs) runs l c s d
+read-from-blank pairs runs l c s d w =
+    all-read pairs runs (w .catalogue) (w .seconds) (w .dep) l c s d (w .blank-catalogue) (w .blank-seconds) (w .blank-dep) (w .fed)
+
+fed-same : (pairs : List ℕ) (runs : List (List Step)) (l c c′ s s′ d d′ : List ℕ) → FromBlank pairs runs l c s d → FromBlank pairs runs l c′ s′ d′
+    → SameBits c c′ × SameBits s s′ × SameBits d d′
+fed-same pairs runs l c c′ s s′ d d′ w w′ =
+    let k = read-from-blank pairs runs l c s d w in
+    let k′ = read-from-blank pairs runs l c′ s′ d′ w′ in (
+      catalogues-same c c′ (pairs-of pairs) first-touches runs l (k .firsts-catalogued) (k′ .firsts-catalogued),
+      catalogues-same s s′ (pairs-of pairs) second-touches runs l (k .seconds-catalogued) (k′ .seconds-catalogued),
+      marks-same d d′ (Depends (conflict (pairs-of pairs) runs) l) (k .so-far) (k′ .so-far),
+    )
+
 -- ---- the calls for C
 
 -- the numbers of equal answers
@@ -320,6 +373,8 @@ all-determined = record {
   reporting-cyclic = λ o before x x′ n n′ w w′ f.
       let e : text-of (w .report) ≡ text-of (w′ .report) = ap text-of (cyclic-report o (w .report) (w′ .report) (w .report-on) (w′ .report-on) f) in
       (cc (e, w .put .bytes, w′ .put .bytes), cc (e, w .put .count, w′ .put .count));
+  marking = λ R t t′ m m′. marks-same t t′ R m m′;
+  feeding = fed-same;
   c-reading = λ s r r′ w w′. w .numbers ∙ sym (w′ .numbers);
   c-judging = c-judged;
   c-judging-rest = λ s order order′ cycle cycle′ r w. rw (w .numbers) (bytes-rest order order′ cycle cycle′ s (w .judgement) (w .promise));

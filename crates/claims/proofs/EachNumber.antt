@@ -14,10 +14,10 @@ use Rattle.book.specs.Numbers.{number}
 use Rattle.book.specs.TestOrder.{book-numbers}
 use Rattle.book.specs.declared.Cause.{Cause}
 use Rattle.book.specs.declared.Cause.the-variants.{NoCommand, EndsEarly, OutOfOrder, WrongKind, NotRising, WrongRun, TooManyRuns, RunTooLong, TooManySteps, WrongCut, NoStepLeft, BytesAfterEnd}
-use Rattle.gate.specs.Plain.{In}
-use Rattle.claims.specs.Table.{book-over}
+use Rattle.plain.specs.Plain.{In}
+use Rattle.table.specs.BookTable.{book-over}
 use Rattle.claims.specs.Demands.{SomeBook}
-use Rattle.claims.proofs.Table.{refused-row}
+use Rattle.table.proofs.BookTable.{refused-row}
 use Rattle.claims.proofs.Bytes.{all-bytes, bytes}
 
 infixr 5 _then_

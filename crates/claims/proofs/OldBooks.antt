@@ -16,7 +16,7 @@ use Rattle.book.specs.Format.{Contents, Outcome, accepted, step-limit, deck-rul
 use Rattle.book.specs.Meaning.{conflict-of, unit-of}
 use Rattle.book.specs.Book.{pairs-of}
 use Rattle.book.proofs.EarlierReader.{earlier-reader}
-use Rattle.graph.specs.Marks.{Marks}
+use Rattle.dependence.specs.Marks.{Marks}
 use Rattle.judge.specs.Judged.{JudgedAs}
 use Rattle.judge.specs.Judge.{OutcomeJudged, BytesJudged}
 use Rattle.judge.specs.declared.Judgement.{Judgement}
@@ -26,12 +26,12 @@ use Rattle.names.specs.declared.ArcNames.{ArcNames}
 use Rattle.evidence.specs.Named.{OutcomeNamed, NamedAs}
 use Rattle.evidence.specs.declared.Named.{Named}
 use Rattle.evidence.specs.declared.Named.the-variants.{Arcs}
-use Rattle.gate.specs.Plain.{Call, newly-opened, PlainCall, PlainCallBy, PlainCallsBy}
+use Rattle.plain.specs.Plain.{Call, newly-opened, PlainCall, PlainCallBy, PlainCallsBy}
 use Rattle.gate.specs.Gate.{answer-of, book-of, state-of, Sound, CalledAs, on-sound}
-use Rattle.gate.specs.Replay.{calls-of, answers-in, played-by, Replays}
+use Rattle.replay.specs.Replay.{calls-of, answers-in, played-by, Replays}
 use Rattle.gate.specs.declared.Gate.{Gate}
-use Rattle.gate.specs.declared.Played.the-variants.{Done}
-use Rattle.gate.specs.declared.Replayed.{Replayed}
+use Rattle.replay.specs.declared.Played.the-variants.{Done}
+use Rattle.replay.specs.declared.Replayed.{Replayed}
 use Rattle.gate.specs.declared.Reply.{Reply}
 use Rattle.gate.proofs.Records.{sound-call}
 use Rattle.gate.proofs.Chained.{opened-plain}

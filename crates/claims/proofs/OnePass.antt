@@ -8,11 +8,11 @@ use Rattle.bits.specs.Table.{row-words}
 use Rattle.theory.specs.Deck.{Step}
 use Rattle.theory.proofs.Lists.{length-snoc}
 use Rattle.book.specs.Book.{pairs-of}
-use Rattle.graph.specs.Dependence.{Blank, StepsRead}
-use Rattle.graph.proofs.DependenceRows.{none-read}
+use Rattle.dependence.specs.Dependence.{Blank, StepsRead}
+use Rattle.dependence.proofs.DependenceRows.{none-read}
 use Rattle.claims.specs.OnePass.{Fed, no-more, one-more, RowsAfter, OnePass}
 
-all-read : (pairs : List ℕ) (runs : List (List Step)) (catalogue seconds dep l c s d : List ℕ) → Blank catalogue → Blank seconds → Blank dep
+pub all-read : (pairs : List ℕ) (runs : List (List Step)) (catalogue seconds dep l c s d : List ℕ) → Blank catalogue → Blank seconds → Blank dep
     → Fed pairs runs [] catalogue seconds dep l c s d → StepsRead (pairs-of pairs) runs l c s d
 all-read pairs runs catalogue seconds dep l c s d b₁ b₂ b₃ no-more = none-read (pairs-of pairs) runs catalogue seconds dep b₁ b₂ b₃
 all-read pairs runs catalogue seconds dep l c s d b₁ b₂ b₃ (one-more {l = m} {c = c₀} {s = s₀} {d = d₀} p x) =

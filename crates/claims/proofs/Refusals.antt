@@ -1,5 +1,5 @@
--- Demand 1: each call's refusals are the rows of the documents' table. A call that reads a book is refused as the book is, by proofs/Table; a call's own
--- rows are the cases of its contract.
+-- Demand 1: each call's refusals are the rows of the documents' table. A call that reads a book is refused as the book is, by table's
+-- proofs/BookTable; a call's own rows are the cases of its contract.
 use Prim.Native.Nat.{ℕ, suc, _+_, _*_, _≤_, _<_}
 use native.Mathlib.Decide.{decLt, ℕ-discrete}
 use native.Mathlib.Omega.{arith}
@@ -32,24 +32,25 @@ use Rattle.names.specs.Names.{names-value}
 use Rattle.names.specs.declared.ArcNames.{ArcNames}
 use Rattle.evidence.specs.Named.{named-numbers, OutcomeNamed, NamedAs}
 use Rattle.evidence.specs.declared.Named.{Named}
-use Rattle.gate.specs.Plain.{Call, step, withdraw, take-back, Answer, place, refused as refused-by-number, State, PlainCall, step-refused, step-tangled, step-kept, withdraw-refused, withdraws, take-back-refused, takes-back, Refusal, not-declared, was-withdrawn, all-kept, RemovalRefusal, undeclared, was-taken-back}
+use Rattle.plain.specs.Plain.{Call, step, withdraw, take-back, Answer, place, refused as refused-by-number, State, PlainCall, step-refused, step-tangled, step-kept, withdraw-refused, withdraws, take-back-refused, takes-back, Refusal, not-declared, was-withdrawn, all-kept, TakeBackRefusal, undeclared, was-taken-back}
 use Rattle.gate.specs.Gate.{answer-of, reply-numbers, book-of, state-of, Sound, opening-answer, opening-numbers, opened-book, OpenedAs, CalledAs, on-sound, on-damaged}
-use Rattle.gate.specs.Replay.{is-call, calls-of, bad-at, played-numbers, played-by, Replays}
+use Rattle.replay.specs.Replay.{is-call, calls-of, bad-at, played-numbers, played-by, Replays}
 use Rattle.gate.specs.declared.Gate.{Gate}
 use Rattle.gate.specs.declared.Opened.{Opened}
-use Rattle.gate.specs.declared.Replayed.{Replayed}
-use Rattle.gate.specs.declared.Played.{Played}
-use Rattle.gate.specs.declared.Played.the-variants.{Done, Refused as NotPlayed}
+use Rattle.replay.specs.declared.Replayed.{Replayed}
+use Rattle.replay.specs.declared.Played.{Played}
+use Rattle.replay.specs.declared.Played.the-variants.{Done, Refused as NotPlayed}
 use Rattle.gate.specs.declared.Reply.{Reply}
 use Rattle.gate.specs.declared.Reply.the-variants.{Place, Withdrawn, TakenBack, Refused}
-use Rattle.gate.proofs.PlainGate.{single}
+use Rattle.plain.proofs.PlainGate.{single}
 use Rattle.gate.proofs.Unchanged.{refused-unchanged}
-use Rattle.gate.proofs.Replays.{whole-calls}
+use Rattle.replay.proofs.Replays.{whole-calls}
 use Rattle.report.specs.Text.{Findings, Report, refused-at, accepted-with, text-of}
 use Rattle.report.specs.Reporting.{ReportOn, Reports}
-use Rattle.claims.specs.Table.{BookRow, NoRow, JudgeRow, order-under-128, cycle-under-128, judged-book, WriterRow, written-book, shorter-than-the-book, run-called, StepsOrWithdraws, is-step, is-withdrawal, GateRow, row-20, row-21, row-22, row-23, row-26, row-32, NoCallAt, cut-off, none-of-them, behind-53, behind-57, behind-54, ReplayRow, replayed-book, no-call, answers-short}
+use Rattle.table.specs.BookTable.{most-steps, BookRow, NoRow}
+use Rattle.claims.specs.Table.{JudgeRow, order-short, cycle-short, judged-book, WriterRow, written-book, shorter-than-the-book, run-called, StepsOrWithdraws, is-step, is-withdrawal, GateRow, row-20, row-21, row-22, row-23, row-26, row-32, NoCallAt, cut-off, none-of-them, behind-53, behind-57, behind-54, ReplayRow, replayed-book, no-call, answers-short}
 use Rattle.claims.specs.Demands.{TurnsAway, BuffersUnchanged, AnswersUnchanged, WithoutRuns, Demand1}
-use Rattle.claims.proofs.Table.{refused-row, row-refused, row-numbered, row-single, accepted-no-row}
+use Rattle.table.proofs.BookTable.{refused-row, row-refused, row-numbered, row-single, accepted-no-row}
 use Rattle.claims.proofs.EachNumber.{each-number}
 
 -- ---- a refusal, and a call that is carried out
@@ -119,17 +120,17 @@ module _ (s order order′ cycle cycle′ : List ℕ) (r : Judgement) where
   Turns n = TurnsAway (JudgeRow s order cycle) n Same
 
   -- 12 comes first
-  only-12 : (length order < 128) ⊎ (length cycle < 128) → (m at : ℕ) → JudgeRow s order cycle m at → (12 ≡ m) × (0 ≡ at)
-  only-12 h m at (order-under-128 l) = (refl, refl)
-  only-12 h m at (cycle-under-128 l) = (refl, refl)
+  only-12 : (length order < most-steps) ⊎ (length cycle < most-steps) → (m at : ℕ) → JudgeRow s order cycle m at → (12 ≡ m) × (0 ≡ at)
+  only-12 h m at (order-short l) = (refl, refl)
+  only-12 h m at (cycle-short l) = (refl, refl)
   only-12 (inl h) m at (judged-book a b x) = absurd (omega arith)
   only-12 (inr h) m at (judged-book a b x) = absurd (omega arith)
 
   -- with buffers that are long enough the book's rows are left
-  module _ (a : 128 ≤ length order) (b : 128 ≤ length cycle) where
+  module _ (a : most-steps ≤ length order) (b : most-steps ≤ length cycle) where
     only-book : {m at : ℕ} → JudgeRow s order cycle m at → BookRow s m at
-    only-book (order-under-128 l) = absurd (omega arith)
-    only-book (cycle-under-128 l) = absurd (omega arith)
+    only-book (order-short l) = absurd (omega arith)
+    only-book (cycle-short l) = absurd (omega arith)
     only-book (judged-book x y z) = z
 
     judged-long : (o : Outcome) → read s ≡ o → OutcomeJudged order order′ cycle cycle′ o r → Turns (verdict-numbers (r .verdict))
@@ -149,16 +150,16 @@ module _ (s order order′ cycle cycle′ : List ℕ) (r : Judgement) where
 
   judge-turns : BytesJudged order order′ cycle cycle′ s r → Turns (verdict-numbers (r .verdict))
   unfolding Turns
-  judge-turns j = go (decLt (length order) 128) (decLt (length cycle) 128)
+  judge-turns j = go (decLt (length order) most-steps) (decLt (length cycle) most-steps)
     where
-      short : (length order < 128) ⊎ (length cycle < 128) → JudgeRow s order cycle 12 0 → Turns (verdict-numbers (r .verdict))
+      short : (length order < most-steps) ⊎ (length cycle < most-steps) → JudgeRow s order cycle 12 0 → Turns (verdict-numbers (r .verdict))
       short h x =
           let k = j .short h in
           rw (k .verdict-is) (turned (JudgeRow s order cycle) Same (refused-with JudgeBufferShort 0) x refl (record { order-same = k .order-unchanged; cycle-same = k .cycle-unchanged; no-count = k .count-is }) (only-12 h))
 
-      go : Dec (length order < 128) → Dec (length cycle < 128) → Turns (verdict-numbers (r .verdict))
-      go (yes h) d = short (inl h) (order-under-128 h)
-      go (no n) (yes h) = short (inr h) (cycle-under-128 h)
+      go : Dec (length order < most-steps) → Dec (length cycle < most-steps) → Turns (verdict-numbers (r .verdict))
+      go (yes h) d = short (inl h) (order-short h)
+      go (no n) (yes h) = short (inr h) (cycle-short h)
       go (no n) (no m) = judged-long (omega arith) (omega arith) (read s) refl (j .long (omega arith) (omega arith))
 
 -- ---- the writer
@@ -223,9 +224,9 @@ module _ (g : Gate) (y : Sound g) where
   refusal-row x r e k (was-withdrawn d w) = row-21 y k d w
   refusal-row x r e k (all-kept d w l) = row-22 y k d w l
 
-  removal-row : (r : ℕ) {cause : Cause} → RemovalRefusal (book-of g) (state-of g) r cause → GateRow g (take-back r) (number cause) 0
-  removal-row r (undeclared d) = row-20 y d
-  removal-row r (was-taken-back d w) = row-32 y d w
+  take-back-row : (r : ℕ) {cause : Cause} → TakeBackRefusal (book-of g) (state-of g) r cause → GateRow g (take-back r) (number cause) 0
+  take-back-row r (undeclared d) = row-20 y d
+  take-back-row r (was-taken-back d w) = row-32 y d w
 
   rule-row : {x : Call} {a : Answer} {h : State} (n : ℕ) → PlainCall (book-of g) (state-of g) x a h → a ≡ refused-by-number n → GateRow g x n 0
   rule-row {x} n (step-refused {r = r} {cause = cause} p) e = let q : number cause ≡ n = cc in subst (λ (k : ℕ). GateRow g x k 0) q (refusal-row x r refl is-step p)
@@ -233,7 +234,7 @@ module _ (g : Gate) (y : Sound g) where
   rule-row n (step-kept p t) e = let z : _≡_ {A = ℕ} 0 1 = cc in absurd (omega arith)
   rule-row {x} n (withdraw-refused {r = r} {cause = cause} p) e = let q : number cause ≡ n = cc in subst (λ (k : ℕ). GateRow g x k 0) q (refusal-row x r refl is-withdrawal p)
   rule-row n (withdraws p) e = let z : _≡_ {A = ℕ} 0 1 = cc in absurd (omega arith)
-  rule-row {x} n (take-back-refused {r = r} {cause = cause} p) e = let q : number cause ≡ n = cc in subst (λ (k : ℕ). GateRow g x k 0) q (removal-row r p)
+  rule-row {x} n (take-back-refused {r = r} {cause = cause} p) e = let q : number cause ≡ n = cc in subst (λ (k : ℕ). GateRow g x k 0) q (take-back-row r p)
   rule-row n (takes-back p) e = let z : _≡_ {A = ℕ} 0 1 = cc in absurd (omega arith)
 
 -- of a record that is not sound, 26 alone applies

@@ -1,14 +1,14 @@
--- Arcs by name (document 02, change 5), as statements about every answer that meets the calls' contracts. That the cycle check and the judge give the
--- answers that they gave has no statement here: their contracts are the same, and fix every answer but which cycle the judge returns.
+-- Arcs by name (document 02, change 5), as statements about every answer that meets the calls' contracts. The cycle check and the judge give the answers that
+-- they gave: a cycle by the arc test's new answer is one as before, and their contracts fix every answer but which cycle the judge returns (Determined).
 use Prim.Native.Nat.{ℕ, suc, _-_, _≤_, _<_}
 use mathlib.Core.Path.{_≡_}
 use mathlib.Core.Logic.{_⊎_, _≢_, _↔_}
 use mathlib.Core.List.{List, [], _∷_, _++_}
 use lib.ListN.{length, getD, take}
 use Rattle.buffer.specs.Each.{each}
-use Rattle.theory.specs.Graph.{ArcI, ArcD, ArcF, ArcB, Arc}
+use Rattle.theory.specs.Graph.{ArcI, ArcD, ArcF, ArcB, Arc, Cycle}
 use Rattle.theory.specs.Rows.{Is}
-use Rattle.book.specs.Format.{Contents, accepted, read}
+use Rattle.book.specs.Format.{Contents, accepted, step-limit, read}
 use Rattle.book.specs.Numbers.{value-of}
 use Rattle.book.specs.Meaning.{conflict-of, unit-of}
 use Rattle.names.specs.Names.{names-of, names-value}
@@ -19,11 +19,15 @@ use Rattle.classes.specs.declared.Tested.the-variants.{Yes}
 use Rattle.evidence.specs.Named.{named-numbers, NamedAs}
 use Rattle.evidence.specs.declared.Named.{Named}
 use Rattle.evidence.specs.declared.Named.the-variants.{Arcs}
+use Rattle.judge.specs.Judge.{BytesJudged}
+use Rattle.judge.specs.declared.Judgement.{Judgement}
+use Rattle.judge.specs.declared.Verdict.the-variants.{Tangled}
 use Rattle.report.specs.Text.{Findings, accepted-with, tangled, decimal}
 use Rattle.report.specs.Reporting.{Reports}
-use Rattle.capi.specs.Calls.{TestCall, NameCall}
+use Rattle.capi.specs.Calls.{TestCall, NameCall, JudgeCall}
 use Rattle.capi.specs.declared.Answered.{Answered}
-use Rattle.claims.specs.Demands.{answered-numbers}
+use Rattle.capi.specs.declared.Judged.{Judged}
+use Rattle.claims.specs.Demands.{answered-numbers, judged-numbers}
 
 -- ---- the arc test
 
@@ -41,6 +45,24 @@ pub record AllThatHold (c : Contents) (x y : ℕ) (w : ArcNames) : Type 0 where
   pub d-holds : Is (w .d) (ArcD (conflict-of c) (c .history) x y)
   pub f-holds : Is (w .f) (ArcF (conflict-of c) (unit-of c) (c .history) x y)
   pub b-holds : Is (w .b) (ArcB (conflict-of c) (unit-of c) (c .history) x y)
+
+-- ---- the cycle check and the judge
+
+-- the arc test answers that an arc leads from x to y
+abbrev pub SomeName : Contents → ℕ → ℕ → Type 0
+SomeName c x y = names-value (arcs-from x y c) ≢ 0
+
+-- a cycle by the arc test's answers: its places are distinct, 2 to the number of done steps, with an arc from each to the next and from the last to the first
+pub record CycleByNames (c : Contents) (l : List ℕ) : Type 0 where
+  pub least : 2 ≤ length l
+  pub most : length l ≤ length (c .history)
+  pub distinct : (i j : ℕ) → i < j → j < length l → getD l i 0 ≢ getD l j 0
+  pub next : (i : ℕ) → suc i < length l → SomeName c (getD l i 0) (getD l (suc i) 0)
+  pub back : SomeName c (getD l (length l - 1) 0) (getD l 0 0)
+
+-- a cycle as before, by the arcs of the graph
+abbrev pub CycleBefore : List ℕ → Contents → Type 0
+CycleBefore l c = Cycle (conflict-of c) (unit-of c) (c .history) l
 
 -- ---- the program's line
 
@@ -93,6 +115,16 @@ pub record ArcsByName : Type 0 where
       → (length (c .history) ≤ x) ⊎ (length (c .history) ≤ y) → named-numbers r .value ≡ 0
   pub deck-beyond : (s : List ℕ) (c : Contents) → read s ≡ accepted c → (x y : ℕ) (r : Answered) → NameCall (arcs-from x y) s r
       → (length (c .history) ≤ x) ⊎ (length (c .history) ≤ y) → answered-numbers r .value ≡ 0
+  -- The cycle check and the judge use the new answer, their own answers being as before: a list is a cycle by it exactly if it was one,
+  pub same-cycles : (c : Contents) (l : List ℕ) → CycleByNames c l ↔ CycleBefore l c
+  -- the cycle check says of it what it said,
+  pub checked-as-before : (s l : List ℕ) (r : Tested) → TestedAs (λ c. CycleByNames c l) s r ↔ TestedAs (CycleBefore l) s r
+  pub deck-checked-as-before : (s l : List ℕ) (r : Answered) → TestCall (λ c. CycleByNames c l) s r ↔ TestCall (CycleBefore l) s r
+  -- and the judge's cycle is one by it.
+  pub judged-by-names : (s : List ℕ) (c : Contents) → read s ≡ accepted c → (order order′ cycle cycle′ : List ℕ) (r : Judgement) → step-limit ≤ length order → step-limit ≤ length cycle
+      → BytesJudged order order′ cycle cycle′ s r → r .verdict ≡ Tangled → CycleByNames c (take (r .count) cycle′)
+  pub deck-judged-by-names : (s : List ℕ) (c : Contents) → read s ≡ accepted c → (order order′ cycle cycle′ : List ℕ) (r : Judged) → step-limit ≤ length order → step-limit ≤ length cycle
+      → JudgeCall s order order′ cycle cycle′ r → judged-numbers r ≡ value-of 2 → CycleByNames c (take (r .count) cycle′)
   -- Under the cycle the program adds a line "arcs" with, for each arc in turn, the one back to the first place last, a blank and the first of I, D, F, B
   -- that holds.
   pub lettered : (s : List ℕ) (c : Contents) → read s ≡ accepted c → (text text′ : List ℕ) (n : ℕ) (w : Reports (read s) text text′ n)

@@ -8,7 +8,7 @@ use lib.ListN.{length}
 use Rattle.theory.specs.Lists.{sum}
 use Rattle.theory.specs.Deck.{Touch, single, transfer}
 use Rattle.book.specs.Format.{Contents, step, ReadState, last, lengths, effect}
-use Rattle.claims.specs.Table.{Fault}
+use Rattle.table.specs.BookTable.{Fault}
 
 pub record Command54 : Type 0 where
   -- It stands wherever 53 may: but for its bytes, of which it has seven, what is wrong with it is what is wrong with a 53 of its first touch or of its second;

@@ -1,16 +1,16 @@
 -- The demands, sentence by sentence, as statements about every answer that meets the public calls' contracts. What the calls' own proofs say
--- besides, for every input: they never trap, they end, and they touch no memory but the lent buffers and the lent record. Demand 3 is gate's `Demand3`
--- (crates/gate/specs/Demand.antt), and the twelve rows are theory's `TwelveHistories` (crates/theory/specs/Rows.antt); both stand there once.
-use Prim.Native.Nat.{ℕ, _≤_}
+-- besides, for every input: they never trap, they end, and they touch no memory but the lent buffers and the lent record. Demand 3 is plain's `Demand3`
+-- (crates/plain/specs/Demand.antt), and the twelve rows are theory's `TwelveHistories` (crates/theory/specs/Rows.antt); both stand there once.
+use Prim.Native.Nat.{ℕ, _≤_, _<_}
 use mathlib.Core.Path.{_≡_}
 use mathlib.Core.Logic.{_≢_, _↔_}
-use mathlib.Core.List.{List, []}
+use mathlib.Core.List.{List, [], _∷_}
 use lib.ListN.{length, take}
 use Rattle.theory.specs.Relative.{ConflictSerializable, RelativelySerialOrder, RelativelySerializable}
 use Rattle.theory.specs.Graph.{Cycle}
 use Rattle.buffer.specs.Put.{Put}
 use Rattle.book.specs.Format.{Bytes, Contents, nothing, accepted, step-limit, read}
-use Rattle.book.specs.Numbers.{Numbers, reading-numbers}
+use Rattle.book.specs.Numbers.{Numbers, value-of, reading-numbers}
 use Rattle.book.specs.TestOrder.{book-numbers}
 use Rattle.book.specs.Meaning.{conflict-of, unit-of}
 use Rattle.book.specs.Book.{empty-book, outcome-of, ReadAs}
@@ -26,31 +26,34 @@ use Rattle.classes.specs.declared.Tested.{Tested}
 use Rattle.names.specs.declared.ArcNames.{ArcNames}
 use Rattle.evidence.specs.Named.{named-numbers, NamedAs}
 use Rattle.evidence.specs.declared.Named.{Named}
-use Rattle.gate.specs.Plain.{Call, Answer as PlainAnswer, In, newly-opened}
+use Rattle.plain.specs.Plain.{Call, step, withdraw, take-back, Answer as PlainAnswer, place, withdrawn, taken-back, refused, State, In, newly-opened}
 use Rattle.gate.specs.Gate.{reply-numbers, book-of, state-of, opening-numbers, opened-book, OpenedAs, CalledAs}
 use Rattle.gate.specs.Chain.{Chain}
-use Rattle.gate.specs.Demand.{Demand3}
-use Rattle.gate.specs.Replay.{played-numbers, Unchanged, Replays}
+use Rattle.plain.specs.Demand.{Demand3}
+use Rattle.replay.specs.Replay.{played-numbers, Unchanged, Replays}
 use Rattle.gate.specs.declared.Gate.{Gate}
 use Rattle.gate.specs.declared.Opened.{Opened}
-use Rattle.gate.specs.declared.Replayed.{Replayed}
+use Rattle.replay.specs.declared.Replayed.{Replayed}
 use Rattle.gate.specs.declared.Reply.{Reply}
 use Rattle.report.specs.Text.{Findings, refused-at, accepted-with, text-of}
 use Rattle.report.specs.Reporting.{Reports}
+use Rattle.capi.specs.Numbers.{answered}
 use Rattle.capi.specs.Calls.{ReadCall, TestCall, NameCall, JudgeCall, WriteCall, OpenCall, GateCall, ReplayCall}
 use Rattle.capi.specs.declared.Answered.{Answered}
 use Rattle.capi.specs.declared.Judged.{Judged}
 use Rattle.capi.specs.declared.OpenedGate.{OpenedGate}
-use Rattle.claims.specs.Table.{BookRow, NoRow, JudgeRow, WriterRow, GateRow, ReplayRow}
+use Rattle.table.specs.BookTable.{BookRow, NoRow}
+use Rattle.claims.specs.Table.{JudgeRow, WriterRow, GateRow, ReplayRow}
 
--- Demand 1, of a call that answers the numbers n, where the rows R of the documents' table (Table) are its refusals, and Same says that every lent byte
--- and the record are as at entry; of a book or a gate that a call hands back, that it is the one without runs, and of a replay's gate, that it is as opened.
-pub record TurnsAway (R : ℕ → ℕ → Type 0) (n : Numbers) (Same : Type 0) : Type 0 where
+-- Demand 1, of a call that answers the numbers n, where the rows R of the documents' table (table BookTable, Table) are its refusals, and LeftAsIs says that
+-- every lent byte and the record are as at entry; of a book or a gate that a call hands back, that it is the one without runs, and of a replay's gate, that it
+-- is as opened.
+pub record TurnsAway (R : ℕ → ℕ → Type 0) (n : Numbers) (LeftAsIs : Type 0) : Type 0 where
   -- Each refusal has the number and place in document 01, with document 02's changes so far,
   pub row : n .number ≢ 0 → R (n .number) (n .place)
   pub no-value : n .number ≢ 0 → n .value ≡ 0
   -- and nothing refused changes a buffer or the gate.
-  pub unchanged : n .number ≢ 0 → Same
+  pub unchanged : n .number ≢ 0 → LeftAsIs
   -- Where a row applies, the call is refused with its number, at its place.
   pub refused-by : (m place : ℕ) → R m place → (n .number ≡ m) × (n .place ≡ place)
 
@@ -87,7 +90,7 @@ judged-numbers r = record { number = r .number; place = r .place; value = r .ver
 abbrev pub opened-numbers : OpenedGate → Numbers
 opened-numbers r = record { number = r .number; place = r .place; value = 0 }
 
--- Demand 1 of every call: by its contract, its refusals are these rows. Same is Unit where a call is lent nothing that it could write to.
+-- Demand 1 of every call: by its contract, its refusals are these rows. LeftAsIs is Unit where a call is lent nothing that it could write to.
 pub record Demand1 : Type 1 where
   -- the numbers of a book's refusals: document 01's "1 to 11" and each later check of the reader, and no others
   pub book-refusals : (s : List ℕ) (n place : ℕ) → BookRow s n place → In n book-numbers
@@ -119,27 +122,74 @@ pub record Demand1 : Type 1 where
   pub report-refused : (s text text′ : List ℕ) (n : ℕ) → Reports (read s) text text′ n → (m place : ℕ) → BookRow s m place → Put (text-of (refused-at m place)) text text′ n
   pub report-accepted : (s text text′ : List ℕ) (n : ℕ) → Reports (read s) text text′ n → NoRow s → (w : Findings) × Put (text-of (accepted-with w)) text text′ n
 
--- Demand 2, of a judgement r on the bytes of a book with contents c, and of the buffers after the call.
-pub record Demand2 (c : Contents) (order′ cycle′ : List ℕ) (r : Judgement) : Type 0 where
+-- Demand 2, of a verdict and its count on the bytes of a book with contents c, and of the buffers after the call. `passed` and `tangled` are the two
+-- verdicts, as an enum's cases or in numbers.
+pub record Demand2By {A : Type 0} (passed tangled : A) (c : Contents) (order′ cycle′ : List ℕ) (verdict : A) (count : ℕ) : Type 0 where
   -- The judge passes a history exactly when some relatively serial order of its steps, in the published sense, has every conflicting pair in
   -- the same order.
-  pub passes-exactly : (r .verdict ≡ Passed) ↔ RelativelySerializable (conflict-of c) (unit-of c) (c .history)
+  pub passes-exactly : (verdict ≡ passed) ↔ RelativelySerializable (conflict-of c) (unit-of c) (c .history)
   -- It then returns such an order,
-  pub order-returned : r .verdict ≡ Passed → RelativelySerialOrder (conflict-of c) (unit-of c) (c .history) (take (r .count) order′)
-  pub order-counted : r .verdict ≡ Passed → r .count ≡ length (c .history)
+  pub order-returned : verdict ≡ passed → RelativelySerialOrder (conflict-of c) (unit-of c) (c .history) (take count order′)
+  pub order-counted : verdict ≡ passed → count ≡ length (c .history)
   -- and otherwise a cycle of the published graph.
-  pub tangled-otherwise : r .verdict ≢ Passed → r .verdict ≡ Tangled
-  pub cycle-returned : r .verdict ≢ Passed → Cycle (conflict-of c) (unit-of c) (c .history) (take (r .count) cycle′)
-  pub cycle-counted : r .verdict ≢ Passed → r .count ≡ length (take (r .count) cycle′)
+  pub tangled-otherwise : verdict ≢ passed → verdict ≡ tangled
+  pub cycle-returned : verdict ≢ passed → Cycle (conflict-of c) (unit-of c) (c .history) (take count cycle′)
+  pub cycle-counted : verdict ≢ passed → count ≡ length (take count cycle′)
   -- Without cuts, it passes exactly the conflict serializable histories.
-  pub uncut-exactly : c .cuts ≡ [] → (r .verdict ≡ Passed) ↔ ConflictSerializable (conflict-of c) (c .history)
+  pub uncut-exactly : c .cuts ≡ [] → (verdict ≡ passed) ↔ ConflictSerializable (conflict-of c) (c .history)
+
+-- of a judgement
+abbrev pub Demand2 : Contents → List ℕ → List ℕ → Judgement → Type 0
+Demand2 c order′ cycle′ r = Demand2By Passed Tangled c order′ cycle′ (r .verdict) (r .count)
+
+-- of the numbers that the judge for C answers: the verdict is 1 for passed, 2 for tangled
+abbrev pub DeckDemand2 : Contents → List ℕ → List ℕ → Judged → Type 0
+DeckDemand2 c order′ cycle′ r = Demand2By (value-of 1) (value-of 2) c order′ cycle′ (judged-numbers r) (r .count)
 
 -- Demand 2 for every accepted book, buffers as long as the judge asks, and every judgement that meets the judge's contract.
 abbrev pub EveryJudgement : Type 0
 EveryJudgement = (s : List ℕ) (c : Contents) → read s ≡ accepted c → (order order′ cycle cycle′ : List ℕ) (r : Judgement) → step-limit ≤ length order → step-limit ≤ length cycle
     → BytesJudged order order′ cycle cycle′ s r → Demand2 c order′ cycle′ r
 
+-- the same of the judge for C
+abbrev pub EveryDeckJudgement : Type 0
+EveryDeckJudgement = (s : List ℕ) (c : Contents) → read s ≡ accepted c → (order order′ cycle cycle′ : List ℕ) (r : Judged) → step-limit ≤ length order → step-limit ≤ length cycle
+    → JudgeCall s order order′ cycle cycle′ r → DeckDemand2 c order′ cycle′ r
+
 -- Demand 3 for every accepted book, every gate that opening it returned, and every list of calls made in turn on that record.
 abbrev pub EveryListOfCalls : Type 0
 EveryListOfCalls = (s : List ℕ) (c : Contents) → Bytes s → read s ≡ accepted c → (o : Opened) → OpenedAs (read s) o
     → (calls : List Call) (answers : List PlainAnswer) (g : Gate) → Chain (o .gate) calls answers g → Demand3 s c calls answers (state-of g)
+
+-- ---- demand 3 of the calls for C
+
+-- calls for C made in turn on the one record, with the numbers that each answers: the first gets the record as it is in g, each other as the call before
+-- left it
+pub data DeckChain : Gate → List Call → List Answered → Gate → Type 0 where
+  none : {g : Gate} → DeckChain g [] [] g
+  link : {g h k : Gate} {x : Call} {n : Answered} {xs : List Call} {ns : List Answered} → GateCall x g h n → DeckChain h xs ns k → DeckChain g (x ∷ xs) (n ∷ ns) k
+
+-- the numbers of an answer to a call: the place of an admitted step is their value, "withdrawn" and "taken back" have none, and a refusal has its number
+pub data NumbersOf : Call → PlainAnswer → Answered → Type 0 where
+  of-place : {r p : ℕ} → NumbersOf (step r) (place p) (answered (value-of p))
+  of-withdrawn : {r : ℕ} → NumbersOf (withdraw r) withdrawn (answered (value-of 0))
+  of-taken-back : {r : ℕ} → NumbersOf (take-back r) taken-back (answered (value-of 0))
+  of-refusal : {x : Call} {m : ℕ} → 0 < m → NumbersOf x (refused m) (record { number = m; place = 0; value = 0 })
+
+-- of each answer in order
+pub data NumbersOfAll : List Call → List PlainAnswer → List Answered → Type 0 where
+  no-more : NumbersOfAll [] [] []
+  then : {x : Call} {a : PlainAnswer} {n : Answered} {xs : List Call} {bs : List PlainAnswer} {ns : List Answered} → NumbersOf x a n → NumbersOfAll xs bs ns
+      → NumbersOfAll (x ∷ xs) (a ∷ bs) (n ∷ ns)
+
+-- Demand 3 holds of the answers whose numbers the calls gave; there is one such list of answers.
+pub record DeckDemand3 (s : List ℕ) (c : Contents) (calls : List Call) (numbers : List Answered) (g : State) : Type 0 where
+  pub answers : List PlainAnswer
+  pub numbers-of : NumbersOfAll calls answers numbers
+  pub no-other : (bs : List PlainAnswer) → NumbersOfAll calls bs numbers → bs ≡ answers
+  pub demand : Demand3 s c calls answers g
+
+-- for every accepted book, every gate that opening it for C returned, and every list of calls for C made in turn on that record
+abbrev pub EveryListOfDeckCalls : Type 0
+EveryListOfDeckCalls = (s : List ℕ) (c : Contents) → Bytes s → read s ≡ accepted c → (o : OpenedGate) → OpenCall s o
+    → (calls : List Call) (numbers : List Answered) (g : Gate) → DeckChain (o .gate) calls numbers g → DeckDemand3 s c calls numbers (state-of g)

@@ -1,14 +1,19 @@
 -- A public call promises all of its result (document 01, "How much does a public call promise?"): any two results that meet its contract on the
 -- same input are equal, answer, lent bytes and record. Only the judge's choice of a cycle is open, in its buffer and in a report. The judge's second call,
--- `front`, is not here: its contract is two equations, of the part's bytes and of where it begins.
-use Prim.Native.Nat.{ℕ}
+-- `front`, is not here: its contract is two equations, of the part's bytes and of where it begins. `dependence::read_step` is here from blank tables on, by the
+-- bits of its tables; what it makes of tables that no pass over a history has made is left out.
+use Prim.Native.Nat.{ℕ, _<_}
 use mathlib.Core.Path.{_≡_}
 use mathlib.Core.Logic.{_≢_}
 use mathlib.Core.List.{List, []}
 use lib.ListN.{drop}
+use Rattle.bits.specs.Table.{row-bits, rows, bit-at}
+use Rattle.theory.specs.Deck.{Step}
 use Rattle.book.specs.Format.{Contents, Outcome, accepted}
 use Rattle.book.specs.Meaning.{RelativelySerializableHistory}
 use Rattle.book.specs.Book.{ReadAs}
+use Rattle.dependence.specs.Marks.{Marks}
+use Rattle.dependence.specs.Dependence.{Blank}
 use Rattle.judge.specs.Judged.{verdict-numbers}
 use Rattle.judge.specs.Judge.{BytesJudged}
 use Rattle.judge.specs.declared.Judgement.{Judgement}
@@ -17,15 +22,16 @@ use Rattle.classes.specs.Tested.{TestedAs}
 use Rattle.names.specs.declared.ArcNames.{ArcNames}
 use Rattle.evidence.specs.Named.{NamedAs}
 use Rattle.writer.specs.Written.{Wrote}
-use Rattle.gate.specs.Plain.{Call}
+use Rattle.plain.specs.Plain.{Call}
 use Rattle.gate.specs.Gate.{OpenedAs, CalledAs}
-use Rattle.gate.specs.Replay.{Replays}
+use Rattle.replay.specs.Replay.{Replays}
 use Rattle.gate.specs.declared.Gate.{Gate}
 use Rattle.report.specs.Text.{Report, refused-at, accepted-with, Verdict as ReportVerdict, passed, tangled}
 use Rattle.report.specs.Reporting.{Reports}
 use Rattle.capi.specs.Calls.{ReadCall, TestCall, NameCall, JudgeCall, WriteCall, OpenCall, GateCall, ReplayCall}
 use Rattle.capi.specs.declared.Judged.{Judged}
 use Rattle.claims.specs.Demands.{judged-numbers}
+use Rattle.claims.specs.OnePass.{Fed}
 
 -- ---- the shapes of the statements
 
@@ -63,6 +69,20 @@ abbrev pub cycle-of : Report → List ℕ
 cycle-of (refused-at number place) = []
 cycle-of (accepted-with w) = cycle-in (w .verdict)
 
+-- two tables have the same bit at every row and column
+pub record SameBits (t t′ : List ℕ) : Type 0 where
+  pub same : (x y : ℕ) → x < row-bits → y < rows → bit-at t y x ≡ bit-at t′ y x
+
+-- the catalogues c and s and the rows d are those of a pass over the steps of l, from blank tables on
+pub record FromBlank (pairs : List ℕ) (runs : List (List Step)) (l c s d : List ℕ) : Type 0 where
+  pub catalogue : List ℕ
+  pub seconds : List ℕ
+  pub dep : List ℕ
+  pub blank-catalogue : Blank catalogue
+  pub blank-seconds : Blank seconds
+  pub blank-dep : Blank dep
+  pub fed : Fed pairs runs [] catalogue seconds dep l c s d
+
 -- ---- the calls
 
 -- s is the bytes of a book, o the outcome of reading one, P what a test asks of a book's contents
@@ -95,6 +115,11 @@ pub record Determined : Type 1 where
   pub reporting-uncyclic : (o : Outcome) (before : List ℕ) → ((c : Contents) → o ≡ accepted c → RelativelySerializableHistory c) → AtMostOnePair (Reports o before)
   -- the buffer and the text's length, for one cycle: the letters are a function of the history and the cycle above them
   pub reporting-cyclic : (o : Outcome) (before x x′ : List ℕ) (n n′ : ℕ) (w : Reports o before x n) (w′ : Reports o before x′ n′) → cycle-of (w .report) ≡ cycle-of (w′ .report) → (x ≡ x′) × (n ≡ n′)
+  -- a table of bits, as of dependence and of arcs: R is what it marks
+  pub marking : (R : ℕ → ℕ → Type 0) (t t′ : List ℕ) → Marks R t → Marks R t′ → SameBits t t′
+  -- both catalogues and the dependence rows, after the same steps
+  pub feeding : (pairs : List ℕ) (runs : List (List Step)) (l c c′ s s′ d d′ : List ℕ) → FromBlank pairs runs l c s d → FromBlank pairs runs l c′ s′ d′
+      → SameBits c c′ × SameBits s s′ × SameBits d d′
   -- the same of the calls for C
   pub c-reading : (s : List ℕ) → AtMostOne (ReadCall s)
   pub c-judging : (s order order′ order″ cycle cycle′ cycle″ : List ℕ) (r r′ : Judged)

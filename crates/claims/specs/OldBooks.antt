@@ -18,8 +18,8 @@ use Rattle.book.specs.Format.{Contents, Outcome, accepted, step-limit, deck-rul
 use Rattle.book.specs.EarlierReader.{earlier as earlier-rules, Has54, RefusedBefore}
 use Rattle.book.specs.Meaning.{conflict-of, unit-of}
 use Rattle.book.specs.Book.{pairs-of}
-use Rattle.graph.specs.Marks.{Marks}
-use Rattle.graph.specs.Dependence.{Blank}
+use Rattle.dependence.specs.Marks.{Marks}
+use Rattle.dependence.specs.Dependence.{Blank}
 use Rattle.judge.specs.Judged.{verdict-numbers, JudgedAs}
 use Rattle.judge.specs.Judge.{BytesJudged}
 use Rattle.judge.specs.declared.Judgement.{Judgement}
@@ -28,14 +28,14 @@ use Rattle.classes.specs.declared.Tested.{Tested}
 use Rattle.names.specs.declared.ArcNames.{ArcNames}
 use Rattle.evidence.specs.Named.{NamedAs}
 use Rattle.evidence.specs.declared.Named.{Named}
-use Rattle.gate.specs.Plain.{Call, Answer, State, newly-opened, PlainCall, PlainCallBy, PlainCalls, PlainCallsBy}
+use Rattle.plain.specs.Plain.{Call, Answer, State, newly-opened, PlainCall, PlainCallBy, PlainCalls, PlainCallsBy}
 use Rattle.gate.specs.Gate.{answer-of, reply-numbers, book-of, state-of, Sound, OpenedAs, CalledAs}
 use Rattle.gate.specs.Chain.{Chain}
-use Rattle.gate.specs.Replay.{calls-of, answers-bytes, played-by, Replays}
+use Rattle.replay.specs.Replay.{calls-of, answers-bytes, played-by, Replays}
 use Rattle.gate.specs.declared.Gate.{Gate}
 use Rattle.gate.specs.declared.Opened.{Opened}
-use Rattle.gate.specs.declared.Played.the-variants.{Done}
-use Rattle.gate.specs.declared.Replayed.{Replayed}
+use Rattle.replay.specs.declared.Played.the-variants.{Done}
+use Rattle.replay.specs.declared.Replayed.{Replayed}
 use Rattle.gate.specs.declared.Reply.{Reply}
 use Rattle.report.specs.Text.{Findings, accepted-with, text-of}
 use Rattle.report.specs.Reporting.{FindingsBy, Reports}
@@ -128,7 +128,7 @@ module _ (earlier : List Pair → List (List Step) → ℕ → ℕ → ℕ → �
   pub record AsBefore (Old : List (List Step) → Type 0) : Type 1 where
     -- their conflict is the earlier one,
     pub conflicts : (c : Contents) → Old (c .runs) → conflict-of c ≡ earlier-of c
-    -- and so is whatever is said by it, as in the contracts of the calls on a valid book: `graph::dependences`, `graph::tables`, `judge::judge_book`,
+    -- and so is whatever is said by it, as in the contracts of the calls on a valid book: `dependence::dependences`, `graph::tables`, `judge::judge_book`,
     -- `judge::passes`, `classes::is_relatively_serial`, `classes::is_conflict_serializable`
     pub by-conflict : (c : Contents) → Old (c .runs) → (P : (ℕ → ℕ → ℕ → ℕ → Bool) → Type 0) → P (conflict-of c) ↔ P (earlier-of c)
     -- What the calls on bytes, those on a gate's record, and a pass over a history give

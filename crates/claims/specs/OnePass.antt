@@ -1,5 +1,5 @@
 -- One pass over the history (document 02, changes 3 and 6), as a statement about the tables that a controller holds and hands from one call of
--- `graph::read_step` to the next.
+-- `dependence::read_step` to the next.
 use Prim.Native.Nat.{ℕ, _/_, _≤_, _<_}
 use mathlib.Core.Path.{_≡_}
 use mathlib.Core.List.{List, [], _∷_, _++_}
@@ -9,8 +9,8 @@ use Rattle.theory.specs.History.{count}
 use Rattle.theory.specs.Deck.{Step, step-of, conflict}
 use Rattle.theory.specs.Relative.{Depends}
 use Rattle.book.specs.Book.{pairs-of}
-use Rattle.graph.specs.Marks.{Marks}
-use Rattle.graph.specs.Dependence.{Blank, StepRead}
+use Rattle.dependence.specs.Marks.{Marks}
+use Rattle.dependence.specs.Dependence.{Blank, StepRead}
 
 -- from the two catalogues and the rows after the steps of h to those after the steps of a longer history, call after call: each reads the next step of
 -- some run, and does what it promises

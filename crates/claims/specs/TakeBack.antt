@@ -1,5 +1,5 @@
 -- A run taken back (document 02, change 7), of whatever meets the contract of a gate's call, in Rattle and for C. That the gate answers lists with take-backs
--- as the plain gate does is demand 3 (gate Demand), and the refusals by 20 and 32 are demand 1's (Table).
+-- as the plain gate does is demand 3 (plain Demand), the refusals by 20 and 32 are demand 1's (Table), and that step and withdraw are as before is EarlierGate.
 use Prim.Native.Nat.{ℕ, _<_}
 use mathlib.Core.Path.{_≡_}
 use mathlib.Core.Logic.{_↔_, _≢_}
@@ -9,20 +9,19 @@ use Rattle.theory.specs.History.{count, project, but}
 use Rattle.book.specs.Format.{Contents}
 use Rattle.book.specs.Numbers.{number, value-of}
 use Rattle.book.specs.declared.Cause.the-variants.{Withdrawn, Tangled}
-use Rattle.gate.specs.Plain.{Call, step, take-back, Answer, place, taken-back, refused, State, In, PlainCall}
+use Rattle.plain.specs.Plain.{Call, step, take-back, Answer, place, taken-back, refused, State, In}
 use Rattle.gate.specs.Gate.{book-of, state-of, Sound, CalledAs}
-use Rattle.gate.specs.Demand.{At, Admitted, Demand3}
+use Rattle.plain.specs.Demand.{At, Admitted, Demand3}
 use Rattle.gate.specs.declared.Gate.{Gate}
 use Rattle.gate.specs.declared.Reply.{Reply}
 use Rattle.gate.specs.declared.Reply.the-variants.{TakenBack, Refused}
 use Rattle.capi.specs.Numbers.{answered}
 use Rattle.capi.specs.Calls.{GateCall}
 use Rattle.capi.specs.declared.Answered.{Answered}
-use Rattle.claims.specs.Table.{StepsOrWithdraws}
 use Rattle.claims.specs.Lazy.{book-2}
 
 -- what the take-back of run r leaves: the record was g, and is h
-pub record RunRemoved (r : ℕ) (g h : Gate) : Type 0 where
+pub record RunTakenBack (r : ℕ) (g h : Gate) : Type 0 where
   -- Its steps leave the kept list,
   pub steps-leave : count (state-of h .kept) r ≡ 0
   -- the others stay in order,
@@ -42,16 +41,13 @@ tangled-calls = step 0 ∷ step 1 ∷ step 1 ∷ step 0 ∷ take-back 1 ∷ step
 pub record TakeBacks : Type 0 where
   -- The call takes back run r, and the answer is "taken back", of every run that is declared and was not taken back: of withdrawn and completed ones too.
   pub answered-so : (g h : Gate) (r : ℕ) (a : Reply) → Sound g → r < length (book-of g .runs) → ¬ In r (state-of g .taken-back) → CalledAs g (take-back r) a h
-      → (a ≡ TakenBack) × RunRemoved r g h
+      → (a ≡ TakenBack) × RunTakenBack r g h
   pub deck-answered-so : (g h : Gate) (r : ℕ) (n : Answered) → Sound g → r < length (book-of g .runs) → ¬ In r (state-of g .taken-back) → GateCall (take-back r) g h n
-      → (n ≡ answered (value-of 0)) × RunRemoved r g h
+      → (n ≡ answered (value-of 0)) × RunTakenBack r g h
   -- On every sound record a run taken back is withdrawn and has no step kept; its later steps, where it is declared, are refused by 21.
-  pub out : (g : Gate) (r : ℕ) → Sound g → In r (state-of g .taken-back) → In r (state-of g .withdrawn) × (count (state-of g .kept) r ≡ 0)
+  pub taken-back-withdrawn : (g : Gate) (r : ℕ) → Sound g → In r (state-of g .taken-back) → In r (state-of g .withdrawn) × (count (state-of g .kept) r ≡ 0)
   pub later-steps : (g h : Gate) (r : ℕ) (a : Reply) → Sound g → r < length (book-of g .runs) → In r (state-of g .taken-back) → CalledAs g (step r) a h
       → (a ≡ Refused Withdrawn) × (h ≡ g)
-  -- Step and withdraw go by the kept list and the withdrawn runs, as before, and leave the runs taken back as they are.
-  pub steps-and-withdrawals : (c : Contents) (g g′ h : State) (x : Call) (a : Answer) (r : ℕ) → StepsOrWithdraws r x → g′ .kept ≡ g .kept → g′ .withdrawn ≡ g .withdrawn
-      → PlainCall c g x a h → PlainCall c g′ x a (record { kept = h .kept; withdrawn = h .withdrawn; taken-back = g′ .taken-back })
   -- In a list without a take-back that is carried out, a tangled step is never admitted later, as before.
   pub tangled-without : (s : List ℕ) (c : Contents) (calls : List Call) (answers : List Answer) (g : State) → Demand3 s c calls answers g
       → ((k : ℕ) → ¬ At answers k taken-back) → (i j r : ℕ) → i < j → At calls i (step r) → At answers i (refused (number Tangled)) → At calls j (step r) → ¬ Admitted answers j

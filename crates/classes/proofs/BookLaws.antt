@@ -16,9 +16,9 @@ use Rattle.book.specs.declared.Answer.the-variants.{Refused as ReadRefused, Acc
 use Rattle.book.specs.declared.Reading.{Reading}
 use Rattle.theory.specs.Answers.{Answers}
 use Rattle.theory.proofs.Answered.{refute}
-use Rattle.graph.specs.Marks.{Marks}
+use Rattle.dependence.specs.Marks.{Marks}
 use Rattle.graph.specs.Units.{UnitTables}
-use Rattle.graph.proofs.BookTables.{book-history}
+use Rattle.dependence.proofs.BookTables.{book-history}
 use Rattle.graph.proofs.ArcMarks.{rowed}
 use Rattle.graph.specs.inner.Arcs.{Rowed}
 use Rattle.classes.specs.declared.Tested.{Tested}

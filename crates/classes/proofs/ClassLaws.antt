@@ -12,12 +12,12 @@ use Rattle.theory.specs.Graph.{FirstOf, LastOf}
 use Rattle.theory.proofs.Steps.{unit-refl, unit-sym, unit-trans}
 use Rattle.bits.specs.Table.{bit-at}
 use Rattle.theory.proofs.Answered.{answer-yes, answer-no}
-use Rattle.graph.specs.Marks.{Marks}
-use Rattle.graph.specs.inner.Tables.{HistoryOf}
+use Rattle.dependence.specs.Marks.{Marks}
+use Rattle.dependence.specs.inner.Tables.{HistoryOf}
 use Rattle.graph.specs.Units.{Firsts, Lasts}
-use Rattle.graph.proofs.Counting.{history-length, history-run}
+use Rattle.dependence.proofs.Counting.{history-length, history-run}
 use Rattle.book.specs.Format.{run-limit}
-use Rattle.judge.specs.inner.Turns.{NoneBelow}
+use Rattle.turns.specs.inner.Turns.{NoneBelow}
 use Rattle.classes.specs.inner.Tables.{InterleavedIn, LinkedIn, ViolatesIn, AtomicBy, RelativelySerialBy}
 use Rattle.classes.proofs.Searched.{NonePair}
 use Rattle.classes.proofs.UnitEnds.{interleaved-first, first-before, interleaved-other, dep-first, dep-last}

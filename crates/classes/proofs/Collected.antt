@@ -11,7 +11,7 @@ use lib.ListN.{replicate}
 use Rattle.theory.proofs.Finite.{below-suc}
 use Rattle.bits.specs.Table.{row-bits, bit-at, Marked}
 use Rattle.bits.proofs.Store.{zeros-bit}
-use Rattle.graph.proofs.Counting.{clash}
+use Rattle.dependence.proofs.Counting.{clash}
 
 -- x is one of the first n values
 pub record Met (v : ℕ → ℕ) (n x : ℕ) : Type 0 where

@@ -10,7 +10,7 @@ use borrow.Author.Tests.{ltb-true, lt-ltb, eqb-true, eq-eqb, not-true, not-false
 use Rattle.bits.specs.Table.{bit-at}
 use Rattle.book.specs.Format.{run-limit, step-limit}
 use Rattle.theory.specs.Answers.{Answers}
-use Rattle.graph.specs.inner.Tables.{NumberAt}
+use Rattle.dependence.specs.inner.Tables.{NumberAt}
 use Rattle.theory.proofs.Answered.{answer-yes, answer-no, false-true, refute}
 use Rattle.classes.specs.inner.Tables.{InterleavedIn, LinkedIn, ViolatesIn}
 

@@ -6,7 +6,7 @@ use native.Mathlib.Numerals.{add-one}
 use mathlib.Core.Path.{_≡_}
 use mathlib.Core.Logic.{_⊎_, inl, inr}
 use Rattle.theory.proofs.Finite.{below-suc}
-use Rattle.judge.specs.inner.Turns.{NoneBelow}
+use Rattle.turns.specs.inner.Turns.{NoneBelow}
 
 -- no two places b before c below n have the property
 pub record NonePair (P : ℕ → ℕ → Type 0) (n : ℕ) : Type 0 where

@@ -17,8 +17,8 @@ use Rattle.theory.proofs.Finite.{below-suc}
 use Rattle.bits.specs.Table.{bit-at, Marked}
 use Rattle.book.specs.Format.{run-limit}
 use Rattle.theory.specs.Answers.{Answers}
-use Rattle.graph.specs.inner.Tables.{HistoryOf, NumberAt}
-use Rattle.graph.proofs.Counting.{history-length}
+use Rattle.dependence.specs.inner.Tables.{HistoryOf, NumberAt}
+use Rattle.dependence.proofs.Counting.{history-length}
 use Rattle.theory.proofs.Answered.{answer-yes, answer-no, false-true}
 use Rattle.classes.proofs.Collected.{Collected, collected-none, collected-again, collected-more}
 

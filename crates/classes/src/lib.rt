@@ -12,10 +12,10 @@ ghost use Rattle.theory.specs.History.{Serial};
 ghost use Rattle.book.specs.Book.{Valid, contents-of};
 ghost use Rattle.book.specs.Meaning.{SerialHistory, RelativelyAtomicHistory, RelativelySerialHistory, ConflictSerializableHistory};
 ghost use Rattle.theory.specs.Answers.{Answers};
-ghost use Rattle.graph.specs.inner.Tables.{HistoryOf};
+ghost use Rattle.dependence.specs.inner.Tables.{HistoryOf};
 ghost use Rattle.graph.specs.inner.Arcs.{Rowed};
 ghost use Rattle.classes.specs.Tested.{TestedAs};
-ghost use Rattle.judge.specs.inner.Turns.{NoneBelow};
+ghost use Rattle.turns.specs.inner.Turns.{NoneBelow};
 ghost use Rattle.classes.specs.inner.Tables.{InterleavedIn, ViolatesIn, AtomicBy, RelativelySerialBy};
 ghost use Rattle.classes.specs.inner.Books.{without-cuts, tested-by};
 
@@ -33,9 +33,9 @@ fn stands_together(history: &[u8; Book::STEPS], n: usize) -> bool
 {
     let mut seen: Row = [0; bits::ROW_WORDS];
     for p in 0..n {
-        let r = graph::run_of(history, p);
+        let r = dependence::run_of(history, p);
         if bits::has(&seen, r) {
-            if graph::run_of(history, p - 1) != r {
+            if dependence::run_of(history, p - 1) != r {
                 return false;
             }
         } else {
@@ -50,8 +50,8 @@ fn interleaved(history: &[u8; Book::STEPS], n: usize, firsts: &Units, b: usize, 
     requires { ⌜ HistoryOf (now history) n × Rowed n (now firsts) × (b < n) × (c < n) ⌝ }
     ensures { λ r. ⌜ Answers (InterleavedIn (now (history .entry)) (now (firsts .entry)) b c) r ⌝ }
 {
-    let o = graph::run_of(history, b);
-    if graph::run_of(history, c) == o {
+    let o = dependence::run_of(history, b);
+    if dependence::run_of(history, c) == o {
         return false;
     }
     graph::place_in(firsts, n, c, o) < b
@@ -99,7 +99,7 @@ fn violates(
     if !interleaved(history, n, firsts, b, c) {
         return false;
     }
-    let o = graph::run_of(history, b);
+    let o = dependence::run_of(history, b);
     if bits::marked(dep, b, graph::place_in(firsts, n, c, o)) {
         return true;
     }
@@ -172,7 +172,7 @@ pub fn is_relatively_serial(b: Book) -> bool
     ensures { λ r. ⌜ Answers (RelativelySerialHistory (contents-of b)) r ⌝ }
 {
     let mut dep: Table = [0; bits::TABLE_WORDS];
-    graph::dependences(b, &mut dep);
+    dependence::dependences(b, &mut dep);
     let mut firsts: Units = [0; graph::UNITS_SIZE];
     let mut lasts: Units = [0; graph::UNITS_SIZE];
     graph::units(b, &mut firsts, &mut lasts);

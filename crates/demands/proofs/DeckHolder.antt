@@ -35,7 +35,7 @@ use denote.Triple.Entry.{onEntry}
 use denote.Triple.Spec.{Meets}
 use denote.Triple.Walked.{says, Stays, stay-none, walkOf, goes-none, Walks, ends-at, walked, walk-meets}
 use denote.Exit.{yes}
-use Rattle.gate.specs.Plain.{Call}
+use Rattle.plain.specs.Plain.{Call}
 use Rattle.gate.specs.declared.Gate.{Gate}
 use Rattle.gate.proofs.Gate as T
 use Rattle.gate.proofs.Gate.Laws as T′

@@ -6,7 +6,7 @@ use mathlib.Core.List.{List, [], _∷_, _++_}
 use lib.ListN.{length}
 use Rattle.theory.specs.History.{count}
 use Rattle.theory.specs.Deck.{Step, step-of}
-use Rattle.graph.specs.Dependence.{StepRead, StepAnswered}
+use Rattle.dependence.specs.Dependence.{StepRead, StepAnswered}
 use Rattle.claims.specs.OnePass.{Fed, one-more}
 use Rattle.claims.proofs.OnePass.{one-pass}
 use Rattle.demands.specs.Results.{StepFed}

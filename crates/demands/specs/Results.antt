@@ -15,13 +15,13 @@ use Rattle.book.specs.Numbers.{value-of}
 use Rattle.classes.specs.declared.Tested.the-variants.{Yes}
 use Rattle.judge.specs.declared.Judgement.{Judgement}
 use Rattle.judge.specs.declared.Verdict.the-variants.{Passed}
-use Rattle.gate.specs.Plain.{step, withdraw, take-back, In}
+use Rattle.plain.specs.Plain.{step, withdraw, take-back, In}
 use Rattle.gate.specs.Gate.{book-of, state-of, Sound}
-use Rattle.gate.specs.Demand.{Demand3}
-use Rattle.gate.specs.Replay.{calls-of, answers-in}
+use Rattle.plain.specs.Demand.{Demand3}
+use Rattle.replay.specs.Replay.{calls-of, answers-in}
 use Rattle.gate.specs.declared.Gate.{Gate}
-use Rattle.gate.specs.declared.Replayed.{Replayed}
-use Rattle.gate.specs.declared.Played.the-variants.{Done}
+use Rattle.replay.specs.declared.Replayed.{Replayed}
+use Rattle.replay.specs.declared.Played.the-variants.{Done}
 use Rattle.names.specs.Names.{names-value}
 use Rattle.names.specs.declared.ArcNames.{ArcNames}
 use Rattle.report.specs.Text.{Findings, tangled, refused-at, accepted-with, text-of}
@@ -29,13 +29,14 @@ use Rattle.report.specs.Reporting.{Reports}
 use Rattle.capi.specs.Numbers.{answered}
 use Rattle.capi.specs.declared.Answered.{Answered}
 use Rattle.capi.specs.declared.Judged.{Judged}
-use Rattle.graph.specs.Dependence.{Blank, InRange}
+use Rattle.dependence.specs.Dependence.{Blank, InRange}
 use Rattle.claims.specs.OnePass.{Fed, RowsAfter}
-use Rattle.claims.specs.Table.{BookRow, NoRow, JudgeRow, WriterRow, GateRow, ReplayRow}
+use Rattle.table.specs.BookTable.{BookRow, NoRow}
+use Rattle.claims.specs.Table.{JudgeRow, WriterRow, GateRow, ReplayRow}
 use Rattle.claims.specs.Demands.{TurnsAway, BuffersUnchanged, WithoutRuns, answered-numbers, judged-numbers, opened-numbers, Demand2}
 use Rattle.claims.specs.Classes.{OtherCuts, JudgeAnswered, ClassesAnswered, DeckJudgeAnswered, DeckClassesAnswered, SaysYes, SaysPassed, TextSaysPassed, NestedCalls, NestedDeckCalls, NestedFindings}
 use Rattle.claims.specs.ArcsByName.{AllThatHold, ArcsUnder}
-use Rattle.claims.specs.TakeBack.{RunRemoved}
+use Rattle.claims.specs.TakeBack.{RunTakenBack}
 use Rattle.demands.specs.declared.BookAnswers.{BookAnswers}
 use Rattle.demands.specs.declared.DeckCalled.{DeckCalled}
 use Rattle.demands.specs.declared.ClassAnswers.{ClassAnswers}
@@ -146,4 +147,4 @@ pub record TextLettered (s before after : List ℕ) (n : ℕ) : Type 0 where
 -- refused as the table says; else, of a sound record g, a declared run that was not taken back leaves the kept list
 pub record TakenBackAs (g : Gate) (run : ℕ) (r : DeckCalled) : Type 0 where
   pub refusals : TurnsAway (GateRow g (take-back run)) (answered-numbers (r .answer)) (r .gate ≡ g)
-  pub removed : Sound g → run < length (book-of g .runs) → ¬ In run (state-of g .taken-back) → (r .answer ≡ answered (value-of 0)) × RunRemoved run g (r .gate)
+  pub run-taken-back : Sound g → run < length (book-of g .runs) → ¬ In run (state-of g .taken-back) → (r .answer ≡ answered (value-of 0)) × RunTakenBack run g (r .gate)

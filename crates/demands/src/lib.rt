@@ -12,11 +12,11 @@ use capi::Judged;
 use capi::OpenedGate;
 use classes::Tested;
 use gate::Gate;
-use gate::Replayed;
 use judge::Judgement;
 use judge::Verdict;
+use replay::Replayed;
 ghost use Rattle.book.specs.Book.{Valid, as-step, outcome-by};
-ghost use Rattle.gate.specs.Plain.{step as step-call, withdraw as withdraw-call, take-back as take-back-call};
+ghost use Rattle.plain.specs.Plain.{step as step-call, withdraw as withdraw-call, take-back as take-back-call};
 ghost use Rattle.capi.specs.Calls.{GateCall};
 ghost use Rattle.demands.specs.Results.{BookRefusals, JudgeRefusals, WriteRefusals, ReplayRefusals, TextRefusals, GateRefusals, Demand2Of, Demand3Of, NestedAnswers, NestedDeckAnswers, NestedText, ArcsNamed, TextLettered, StepFed, TakenBackAs};
 ghost use Rattle.demands.specs.inner.Readings.{OutcomeAnswered};
@@ -203,7 +203,7 @@ pub fn demand_2(s: &[u8], order: &mut [u8], cycle: &mut [u8]) -> Judgement
 pub fn demand_3(s: &[u8], calls: &[u8], answers: &mut [u8]) -> Replayed
     ensures { λ r. ⌜ Demand3Of (now (s .entry)) (now (calls .entry)) (now (answers .entry)) (now (answers .exit)) r ⌝ }
 {
-    gate::replay(s, calls, answers)
+    replay::replay(s, calls, answers)
 }
 
 // What the four class tests and the judge answer to one book.
@@ -310,7 +310,7 @@ pub fn feed_step(
 ) -> bool
     ensures { λ answer. ⌜ StepFed (now (pairs .entry)) (now (catalogue .entry)) (now (catalogue .exit)) (now (seconds .entry)) (now (seconds .exit)) (now (dep .entry)) (now (dep .exit)) q r (as-step x) answer ⌝ }
 {
-    graph::read_step(pairs, q, r, x, catalogue, seconds, dep)
+    dependence::read_step(pairs, q, r, x, catalogue, seconds, dep)
 }
 
 // Takes a run back.

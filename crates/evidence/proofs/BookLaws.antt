@@ -19,7 +19,7 @@ use Rattle.book.specs.declared.Reading.{Reading}
 use Rattle.book.proofs.Books.{count-is, length-is}
 use Rattle.theory.specs.Answers.{Answers}
 use Rattle.theory.proofs.Answered.{answer-no, refute}
-use Rattle.graph.specs.Marks.{Marks}
+use Rattle.dependence.specs.Marks.{Marks}
 use Rattle.names.specs.Names.{names-of}
 use Rattle.graph.specs.inner.Arcs.{TablesBy}
 use Rattle.names.specs.inner.Tables.{NamesBy}

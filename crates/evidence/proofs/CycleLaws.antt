@@ -18,11 +18,11 @@ use Rattle.bits.specs.Table.{row-bits, bit-at, Marked}
 use Rattle.theory.specs.Answers.{Answers}
 use Rattle.theory.proofs.Answered.{answer-yes, answer-no, refute, false-true}
 use Rattle.names.specs.Names.{names-of}
-use Rattle.graph.specs.inner.Tables.{HistoryOf}
+use Rattle.dependence.specs.inner.Tables.{HistoryOf}
 use Rattle.graph.specs.inner.Arcs.{TablesOf}
 use Rattle.names.specs.inner.Tables.{NamesBy}
 use Rattle.names.specs.declared.ArcNames.{ArcNames}
-use Rattle.graph.proofs.Counting.{history-length}
+use Rattle.dependence.proofs.Counting.{history-length}
 use Rattle.names.proofs.NameLaws.{is-i, is-d, is-f, is-b}
 use Rattle.classes.proofs.Collected.{Collected, collected-none, collected-more}
 use Rattle.evidence.specs.inner.Tables.{any-of, FollowsBy, CycleBy}

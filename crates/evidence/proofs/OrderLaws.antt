@@ -27,11 +27,11 @@ use Rattle.bits.specs.Table.{row-bits, bit-at, Marked, Subset}
 use Rattle.bits.specs.declared.Found.{Found}
 use Rattle.bits.specs.declared.Found.the-variants.{At, Nothing}
 use Rattle.theory.proofs.Answered.{answer-yes, answer-no, false-true}
-use Rattle.graph.specs.Marks.{Marks}
-use Rattle.graph.specs.inner.Tables.{HistoryOf}
-use Rattle.judge.specs.inner.Turns.{TakenIn}
-use Rattle.judge.proofs.ReadyPlaces.{none-taken, taken-added}
-use Rattle.graph.proofs.Counting.{history-length}
+use Rattle.dependence.specs.Marks.{Marks}
+use Rattle.dependence.specs.inner.Tables.{HistoryOf}
+use Rattle.turns.specs.inner.Turns.{TakenIn}
+use Rattle.turns.proofs.ReadyPlaces.{none-taken, taken-added}
+use Rattle.dependence.proofs.Counting.{history-length}
 use Rattle.evidence.specs.inner.Tables.{NextAt, NoNext, NextStep, EquivalentBy}
 use Rattle.evidence.proofs.NextLaws.{next-at, nothing-left}
 

@@ -19,8 +19,8 @@ ghost use Rattle.book.specs.Meaning.{conflict-of, unit-of};
 ghost use Rattle.classes.specs.Tested.{TestedAs};
 ghost use Rattle.theory.specs.Answers.{Answers};
 ghost use Rattle.names.specs.Names.{names-of};
-ghost use Rattle.graph.specs.inner.Tables.{HistoryOf};
-ghost use Rattle.graph.specs.inner.Arcs.{RunRows, TablesOf};
+ghost use Rattle.dependence.specs.inner.Tables.{HistoryOf, RunRows};
+ghost use Rattle.graph.specs.inner.Arcs.{TablesOf};
 ghost use Rattle.evidence.specs.Named.{NamedAs};
 ghost use Rattle.evidence.specs.inner.Tables.{NextStep, EquivalentBy, any-of, FollowsBy, CycleBy};
 ghost use Rattle.evidence.specs.inner.Books.{named-by};
@@ -142,7 +142,7 @@ fn is_relatively_serial_order(b: Book, l: &[u8]) -> bool
     ensures { λ r. ⌜ Answers (RelativelySerialOrder (conflict-of (contents-of b)) (unit-of (contents-of b)) (contents-of b .history) (now (l .entry))) r ⌝ }
 {
     let mut dep: Table = [0; bits::TABLE_WORDS];
-    graph::dependences(b, &mut dep);
+    dependence::dependences(b, &mut dep);
     let history = b.history;
     if !equivalent_by(&history, b.done, &dep, l) {
         return false;

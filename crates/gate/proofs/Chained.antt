@@ -5,16 +5,16 @@ use mathlib.Core.Path.{_≡_, refl, subst, ap, _∙_}
 use mathlib.Core.List.{List, [], _∷_, _++_}
 use lib.ListN.{length}
 use Rattle.book.specs.Format.{Bytes, Contents, accepted, read, with-history}
-use Rattle.gate.specs.Plain.{Call, Answer, newly-opened, PlainCalls, PlainCall, none as no-calls, next as next-call}
-use Rattle.gate.specs.Demand.{Demand3}
+use Rattle.plain.specs.Plain.{Call, Answer, newly-opened, PlainCalls, PlainCall, none as no-calls, next as next-call}
+use Rattle.plain.specs.Demand.{Demand3}
 use Rattle.gate.specs.Gate.{answer-of, book-of, state-of, opened-book, Sound, OpenedAs, CalledAs}
 use Rattle.gate.specs.Chain.{Chain, none, link}
 use Rattle.gate.specs.declared.Gate.{Gate}
 use Rattle.gate.specs.declared.Opened.{Opened}
 use Rattle.gate.specs.declared.Reply.{Reply}
-use Rattle.gate.proofs.PlainGate.{call-history}
+use Rattle.plain.proofs.PlainGate.{call-history}
 use Rattle.gate.proofs.Records.{sound-call}
-use Rattle.gate.proofs.Demand.{plain-demand}
+use Rattle.plain.proofs.Demand.{plain-demand}
 
 -- from a sound record on, each call is the plain gate's and leaves a sound record
 chain-plain : (c : Contents) {g h : Gate} {xs : List Call} {bs : List Answer} → Chain g xs bs h → Sound g → book-of g ≡ with-history c [] → PlainCalls c (state-of g) xs bs (state-of h)

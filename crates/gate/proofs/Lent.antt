@@ -1,6 +1,6 @@
--- A call on the lent record: the walk that `step`, `withdraw` and `take_back` share, over the call and the name of its by-value function. The borrow is opened, the
--- record behind it is copied whole into a local and passed to the by-value function, the gate of what that returns is stored over the record, and
--- the borrow is closed at it. All that the walk knows of the by-value function is its contract.
+-- A call on the lent record: the walk that `step`, `withdraw` and `take_back` share, over the call and the name of its by-value function. The borrow is
+-- opened, the record behind it is copied whole into a local and passed to the by-value function, the gate of what that returns is stored over the record,
+-- and the borrow is closed at it. All that the walk uses of the by-value function is its contract.
 use mathlib.Core.Path.{refl, ap}
 use Prim.Native.Nat.{ℕ, _<_, _^_}
 use mathlib.Core.List.{[], _∷_, List}
@@ -48,7 +48,7 @@ use Rattle.gate.proofs.Reply as N
 use Rattle.gate.proofs.Reply.Laws as N′
 use Rattle.gate.proofs.step_value as by-value
 use Rattle.gate.proofs.step as lent
-use Rattle.gate.specs.Plain.{Call}
+use Rattle.plain.specs.Plain.{Call}
 
 abbrev Arg : Type 0
 Arg = RefT Gate × (ℕ × Unit {0})

@@ -30,8 +30,8 @@ use Rattle.theory.specs.Answers.{Answers}
 use Rattle.theory.proofs.Answered.{answer-no, refute, answer-both}
 use Rattle.theory.proofs.Lists.{count-snoc, getD-zeros}
 use Rattle.theory.proofs.Within.{count-kept, count-left-out, project-same}
-use Rattle.valid.specs.Removed.{Removed}
-use Rattle.gate.specs.Plain.{Call, step, withdraw, take-back, taken-back, In, insert, Eligible, Refusal, Removable, undeclared, was-taken-back, IsTangled, place, PlainCall, step-refused, step-tangled, step-kept, withdraw-refused, withdraws, take-back-refused, takes-back, not-declared as plain-not-declared, was-withdrawn as plain-was-withdrawn, all-kept as plain-all-kept}
+use Rattle.valid.specs.TakenBack.{TakenBackAgree}
+use Rattle.plain.specs.Plain.{Call, step, withdraw, take-back, taken-back, In, insert, Eligible, Refusal, MayTakeBack, undeclared, was-taken-back, IsTangled, place, PlainCall, step-refused, step-tangled, step-kept, withdraw-refused, withdraws, take-back-refused, takes-back, not-declared as plain-not-declared, was-withdrawn as plain-was-withdrawn, all-kept as plain-all-kept}
 use Rattle.gate.specs.Gate.{book-of, state-of, Sound, opening-answer, opened-book, OpenedAs, SoundCall, CalledAs, on-sound, on-damaged}
 use Rattle.gate.specs.inner.Calls.{EligibleIn, RefusalIn, not-declared, was-withdrawn, all-kept, EligibilityIn, StepLeft}
 use Rattle.gate.specs.declared.Gate.{Gate}
@@ -62,9 +62,9 @@ opened-as o r b w m = record {
   state = rw (m .contents);
   sound = record {
     valid = m .valid;
-    flags = no-flags;
+    withdrawn-flags = no-flags;
     taken-back-flags = no-flags;
-    removed = record { withdrawn = λ r n. absurd (n (getD-zeros run-limit r)); no-step = λ r n. absurd (n (getD-zeros run-limit r)) };
+    taken-back-agree = record { withdrawn = λ r n. absurd (n (getD-zeros run-limit r)); none-kept = λ r n. absurd (n (getD-zeros run-limit r)) };
   };
 }
 
@@ -167,7 +167,7 @@ module _ (g : Gate) (r i : ℕ) (y : Sound g) (e : i ≡ r) where
   eligible-of : EligibleIn (g .book .declared) (g .book .lengths) (g .book .counts) (g .withdrawn) i → Eligible (book-of g) (state-of g) r
   eligible-of w = record {
     declared = declared-in (w .declared);
-    present = flagged-out (g .withdrawn) r (rw e at (w .present));
+    not-withdrawn = flagged-out (g .withdrawn) r (rw e at (w .not-withdrawn));
     left = rw (length-is (g .book) (y .valid) r, count-is (g .book) (y .valid) r) (rw e at (w .left));
   }
 
@@ -195,13 +195,13 @@ module _ (g : Gate) (r i : ℕ) (y : Sound g) (e : i ≡ r) where
 
       pub withdraw-done : SoundCall g (withdraw r) Withdrawn (record { book = g .book; withdrawn = set (g .withdrawn) i 1; «taken_back» = g .«taken_back» })
       withdraw-done = record {
-        plain = rw (flag-joins (g .withdrawn) r i e (y .flags) flag-low) (withdraws (eligible-of in-tables));
+        plain = rw (flag-joins (g .withdrawn) r i e (y .withdrawn-flags) flag-low) (withdraws (eligible-of in-tables));
         book = refl;
         sound = record {
           valid = y .valid;
-          flags = flags-set run-limit (g .withdrawn) i (y .flags);
+          withdrawn-flags = flags-set run-limit (g .withdrawn) i (y .withdrawn-flags);
           taken-back-flags = y .taken-back-flags;
-          removed = record { withdrawn = λ x n. flag-stays (g .withdrawn) i x (y .removed .withdrawn x n); no-step = y .removed .no-step };
+          taken-back-agree = record { withdrawn = λ x n. flag-stays (g .withdrawn) i x (y .taken-back-agree .withdrawn x n); none-kept = y .taken-back-agree .none-kept };
         };
       }
 
@@ -210,11 +210,11 @@ module _ (g : Gate) (r i : ℕ) (y : Sound g) (e : i ≡ r) where
         step-tangles h = record { plain = step-tangled (eligible-of in-tables) (rw (m .contents) at (refute p h)); book = refl; sound = y }
 
         -- the run is none of those taken back, which are withdrawn
-        no-step-kept : (x : ℕ) → ¬ (getD (g .«taken_back») x 0 ≡ 0) → getD (b .counts) x 0 ≡ 0
-        no-step-kept x n =
-            let other : ¬ (r ≡ x) = λ q. y .removed .withdrawn x n (rw (← q, ← e) (in-tables .present)) in
+        none-kept-after : (x : ℕ) → ¬ (getD (g .«taken_back») x 0 ≡ 0) → getD (b .counts) x 0 ≡ 0
+        none-kept-after x n =
+            let other : ¬ (r ≡ x) = λ q. y .taken-back-agree .withdrawn x n (rw (← q, ← e) (in-tables .not-withdrawn)) in
             let one-more : count (contents-of b .history) x ≡ count (contents-of (g .book) .history) x = rw (m .contents, count-snoc, ne-eqb r x other) in
-            omega (arith, count-is b (m .valid) x, one-more, count-is (g .book) (y .valid) x, y .removed .no-step x n)
+            omega (arith, count-is b (m .valid) x, one-more, count-is (g .book) (y .valid) x, y .taken-back-agree .none-kept x n)
 
         pub step-keeps : ok ≡ true → SoundCall g (step r) (Place (g .book .done)) (record { book = b; withdrawn = g .withdrawn; «taken_back» = g .«taken_back» })
         step-keeps h = record {
@@ -222,9 +222,9 @@ module _ (g : Gate) (r i : ℕ) (y : Sound g) (e : i ≡ r) where
           book = rw (m .contents);
           sound = record {
             valid = m .valid;
-            flags = y .flags;
+            withdrawn-flags = y .withdrawn-flags;
             taken-back-flags = y .taken-back-flags;
-            removed = record { withdrawn = y .removed .withdrawn; no-step = no-step-kept };
+            taken-back-agree = record { withdrawn = y .taken-back-agree .withdrawn; none-kept = none-kept-after };
           };
         }
 
@@ -235,8 +235,8 @@ module _ (g : Gate) (r i : ℕ) (y : Sound g) (e : i ≡ r) where
   take-back-undeclared h = record { plain = take-back-refused {r = r} (undeclared (rw (runs-are (g .book) (y .valid)) (omega arith))); book = refl; sound = y }
 
   module _ (h : i < g .book .declared) where
-    pub removal-low : i < run-limit
-    removal-low = omega (arith, y .valid .runs .few-runs)
+    pub take-back-low : i < run-limit
+    take-back-low = omega (arith, y .valid .runs .few-runs)
 
     pub take-back-again : ¬ (getD (g .«taken_back») i 0 ≡ 0) → SoundCall g (take-back r) (Refused WasTakenBack) g
     take-back-again n = record {
@@ -248,18 +248,18 @@ module _ (g : Gate) (r i : ℕ) (y : Sound g) (e : i ≡ r) where
     module _ (z : getD (g .«taken_back») i 0 ≡ 0) (b : Book)
         (m : Represents (with-history (contents-of (g .book)) (project (unflagged (set (replicate run-limit 0) i 1)) (contents-of (g .book) .history))) b) where
       others : contents-of b .history ≡ project (but r) (contents-of (g .book) .history)
-      others = rw (m .contents, e) (project-same _ _ (unflagged-but r (rw e at removal-low)) (contents-of (g .book) .history))
+      others = rw (m .contents, e) (project-same _ _ (unflagged-but r (rw e at take-back-low)) (contents-of (g .book) .history))
 
-      may-remove : Removable (book-of g) (state-of g) r
-      may-remove = record { declared = declared-in g r i y e h; not-taken-back = flagged-out (g .«taken_back») r (rw e at z) }
+      may-take-back : MayTakeBack (book-of g) (state-of g) r
+      may-take-back = record { declared = declared-in g r i y e h; not-taken-back = flagged-out (g .«taken_back») r (rw e at z) }
 
       -- a run that is taken back now or was before
       gone : (x : ℕ) → ¬ (getD (set (g .«taken_back») i 1) x 0 ≡ 0) → Dec (x ≡ i) → ¬ (getD (set (g .withdrawn) i 1) x 0 ≡ 0) × (getD (b .counts) x 0 ≡ 0)
-      gone x n (yes q) = (rw q (flag-set-there (g .withdrawn) i (y .flags) removal-low), omega (arith, count-is b (m .valid) x, left))
+      gone x n (yes q) = (rw q (flag-set-there (g .withdrawn) i (y .withdrawn-flags) take-back-low), omega (arith, count-is b (m .valid) x, left))
         where
           left : count (contents-of b .history) x ≡ 0
           left = rw (others, q, e) (count-left-out (but r) r (rw (eq-eqb r r refl)) (contents-of (g .book) .history))
-      gone x n (no q) = (flag-stays (g .withdrawn) i x (y .removed .withdrawn x before), omega (arith, count-is b (m .valid) x, kept, count-is (g .book) (y .valid) x, y .removed .no-step x before))
+      gone x n (no q) = (flag-stays (g .withdrawn) i x (y .taken-back-agree .withdrawn x before), omega (arith, count-is b (m .valid) x, kept, count-is (g .book) (y .valid) x, y .taken-back-agree .none-kept x before))
         where
           before : ¬ (getD (g .«taken_back») x 0 ≡ 0)
           before = rw (getD-set-other (g .«taken_back») i x 1 0 q) at n
@@ -269,30 +269,30 @@ module _ (g : Gate) (r i : ℕ) (y : Sound g) (e : i ≡ r) where
 
       pub take-back-done : SoundCall g (take-back r) TakenBack (record { book = b; withdrawn = set (g .withdrawn) i 1; «taken_back» = set (g .«taken_back») i 1 })
       take-back-done = record {
-        plain = rw (others, flag-joins (g .withdrawn) r i e (y .flags) removal-low, flag-joins (g .«taken_back») r i e (y .taken-back-flags) removal-low) (takes-back may-remove);
+        plain = rw (others, flag-joins (g .withdrawn) r i e (y .withdrawn-flags) take-back-low, flag-joins (g .«taken_back») r i e (y .taken-back-flags) take-back-low) (takes-back may-take-back);
         book = rw (m .contents);
         sound = record {
           valid = m .valid;
-          flags = flags-set run-limit (g .withdrawn) i (y .flags);
+          withdrawn-flags = flags-set run-limit (g .withdrawn) i (y .withdrawn-flags);
           taken-back-flags = flags-set run-limit (g .«taken_back») i (y .taken-back-flags);
-          removed = record { withdrawn = λ x n. gone x n (ℕ-discrete x i) .0; no-step = λ x n. gone x n (ℕ-discrete x i) .1 };
+          taken-back-agree = record { withdrawn = λ x n. gone x n (ℕ-discrete x i) .0; none-kept = λ x n. gone x n (ℕ-discrete x i) .1 };
         };
       }
 
 -- ---- any record
 
 module _ (g : Gate) (p q s : Bool) (v : Answers (Flags run-limit (g .withdrawn)) p) (w : Answers (Flags run-limit (g .«taken_back»)) q)
-    (x : Answers (Removed (g .«taken_back») (g .withdrawn) (g .book .counts)) s) where
-  tables-answer : Answers ((Flags run-limit (g .withdrawn) × Flags run-limit (g .«taken_back»)) × Removed (g .«taken_back») (g .withdrawn) (g .book .counts)) (p && q && s)
+    (x : Answers (TakenBackAgree (g .«taken_back») (g .withdrawn) (g .book .counts)) s) where
+  tables-answer : Answers ((Flags run-limit (g .withdrawn) × Flags run-limit (g .«taken_back»)) × TakenBackAgree (g .«taken_back») (g .withdrawn) (g .book .counts)) (p && q && s)
   tables-answer = answer-both (p && q) s (answer-both p q v (λ a. w)) (λ a. x)
 
   pub flags-fail : (p && q && s) ≡ false → Answers (Sound g) false
-  flags-fail e = answer-no (λ y. refute tables-answer e ((y .flags, y .taken-back-flags), y .removed))
+  flags-fail e = answer-no (λ y. refute tables-answer e ((y .withdrawn-flags, y .taken-back-flags), y .taken-back-agree))
 
   pub book-tells : (p && q && s) ≡ true → (b : Bool) → Answers (Valid (g .book)) b → Answers (Sound g) b
   book-tells e b a =
       let f = tables-answer .sound e in
-      record { sound = λ t. record { valid = a .sound t; flags = f .0 .0; taken-back-flags = f .0 .1; removed = f .1 }; complete = λ y. a .complete (y .valid) }
+      record { sound = λ t. record { valid = a .sound t; withdrawn-flags = f .0 .0; taken-back-flags = f .0 .1; taken-back-agree = f .1 }; complete = λ y. a .complete (y .valid) }
 
 pub tested-sound : (g : Gate) (ok : Bool) → Answers (Sound g) ok → ok ≡ true → Sound g
 tested-sound g ok p e = p .sound e

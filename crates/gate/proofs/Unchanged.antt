@@ -10,7 +10,7 @@ use Rattle.book.specs.Book.{flagged, contents-of, Flags}
 use Rattle.book.specs.declared.Book.{Book}
 use Rattle.book.specs.declared.Cause.{Cause}
 use Rattle.book.proofs.Determined.{flags-same, determined}
-use Rattle.gate.specs.Plain.{Call, Answer, refused, State, PlainCall, step-refused, step-tangled, step-kept, withdraw-refused, withdraws, take-back-refused, takes-back}
+use Rattle.plain.specs.Plain.{Call, Answer, refused, State, PlainCall, step-refused, step-tangled, step-kept, withdraw-refused, withdraws, take-back-refused, takes-back}
 use Rattle.gate.specs.Gate.{book-of, state-of, Sound, CalledAs, on-sound, on-damaged}
 use Rattle.gate.specs.declared.Gate.{Gate}
 use Rattle.gate.specs.declared.Reply.the-variants.{Refused}
@@ -21,7 +21,7 @@ same-record g h y z e f =
     let same-flags : (v w : List ℕ) → Flags run-limit v → Flags run-limit w → flagged 0 v ≡ flagged 0 w → v ≡ w = λ v w p q e. flags-same 0 v w (p .long ∙ sym (q .long)) (p .small) (q .small) e in
     ap₂ (λ (b : Book) (w : List ℕ × List ℕ). record { book = b; withdrawn = w .0; «taken_back» = w .1 })
     (determined (g .book) (h .book) (y .valid) (z .valid) same-contents)
-    (ap₂ (λ (v w : List ℕ). (v, w)) (same-flags (g .withdrawn) (h .withdrawn) (y .flags) (z .flags) (ap (λ (s : State). s .withdrawn) f))
+    (ap₂ (λ (v w : List ℕ). (v, w)) (same-flags (g .withdrawn) (h .withdrawn) (y .withdrawn-flags) (z .withdrawn-flags) (ap (λ (s : State). s .withdrawn) f))
     (same-flags (g .«taken_back») (h .«taken_back») (y .taken-back-flags) (z .taken-back-flags) (ap (λ (s : State). s .taken-back) f)))
 
 -- a refused call leaves the plain gate's state

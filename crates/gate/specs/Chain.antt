@@ -1,7 +1,7 @@
 -- Calls made in turn on the one record: the first gets the record as it is in g, each other as the call before left it. Each link is what the
 -- call promises of the record at entry and at exit.
 use mathlib.Core.List.{List, [], _∷_}
-use Rattle.gate.specs.Plain.{Call, Answer}
+use Rattle.plain.specs.Plain.{Call, Answer}
 use Rattle.gate.specs.Gate.{answer-of, CalledAs}
 use Rattle.gate.specs.declared.Gate.{Gate}
 use Rattle.gate.specs.declared.Reply.{Reply}

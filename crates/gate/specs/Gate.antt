@@ -7,8 +7,8 @@ use Rattle.book.specs.Book.{flagged, contents-of, Flags, Valid}
 use Rattle.book.specs.declared.Cause.the-variants.{Damaged}
 use Rattle.book.specs.declared.Answer.{Answer as BookAnswer}
 use Rattle.book.specs.declared.Answer.the-variants.{Refused as BookRefused, Accepted as BookAccepted}
-use Rattle.valid.specs.Removed.{Removed}
-use Rattle.gate.specs.Plain.{Call, Answer, place, withdrawn, taken-back, refused, State, newly-opened, PlainCall}
+use Rattle.valid.specs.TakenBack.{TakenBackAgree}
+use Rattle.plain.specs.Plain.{Call, Answer, place, withdrawn, taken-back, refused, State, newly-opened, PlainCall}
 use Rattle.gate.specs.declared.Reply.{Reply}
 use Rattle.gate.specs.declared.Reply.the-variants.{Place, Withdrawn, TakenBack, Refused}
 use Rattle.gate.specs.declared.Gate.{Gate}
@@ -39,9 +39,9 @@ state-of g = record { kept = contents-of (g .book) .history; withdrawn = flagged
 -- the tables have their ranges and agree with each other; so it is of every record that opening hands back, and that a call leaves of such a one
 pub record Sound (g : Gate) : Type 0 where
   pub valid : Valid (g .book)
-  pub flags : Flags run-limit (g .withdrawn)
+  pub withdrawn-flags : Flags run-limit (g .withdrawn)
   pub taken-back-flags : Flags run-limit (g .«taken_back»)
-  pub removed : Removed (g .«taken_back») (g .withdrawn) (g .book .counts)
+  pub taken-back-agree : TakenBackAgree (g .«taken_back») (g .withdrawn) (g .book .counts)
 
 -- opening is refused with cause and place as reading is, and then hands back the gate of a book without runs
 abbrev pub opening-answer : Outcome → BookAnswer

@@ -1,13 +1,11 @@
-// The gate: one record, updated by each call. Opening, step, withdraw and take back, and the replay of a whole list of calls.
-ghost use mathlib.Core.Path.{_≡_};
+// The gate: one record, updated by each call. Opening, step, withdraw and take back.
 ghost use Prim.Native.Nat.{_≤_};
 ghost use Rattle.theory.specs.Answers.{Answers};
 ghost use Rattle.book.specs.Format.{run-limit, done, effect, read};
 ghost use Rattle.book.specs.Book.{Represents, contents-of};
-ghost use Rattle.gate.specs.Plain.{step as step-call, withdraw as withdraw-call, take-back as take-back-call};
+ghost use Rattle.plain.specs.Plain.{step as step-call, withdraw as withdraw-call, take-back as take-back-call};
 ghost use Rattle.gate.specs.Gate.{Sound, SoundCall, OpenedAs, CalledAs};
-ghost use Rattle.gate.specs.Replay.{is-call, call-of, calls-of, bad-at, Replays};
-ghost use Rattle.gate.specs.inner.Calls.{EligibilityIn, StepLeft, Low, BytesOf, AnswersRoom, Plays};
+ghost use Rattle.gate.specs.inner.Calls.{EligibilityIn, StepLeft};
 use book::Answer;
 use book::Book;
 use book::Cause;
@@ -68,7 +66,7 @@ fn is_sound(g: Gate) -> bool
     let flags = valid::are_flags(withdrawn) & valid::are_flags(taken_back);
     let b = g.book;
     let counts = b.counts;
-    if flags & valid::are_removed(taken_back, withdrawn, counts) {
+    if flags & valid::taken_back_agree(taken_back, withdrawn, counts) {
         return valid::is_valid(b);
     }
     false
@@ -205,11 +203,11 @@ fn take_back_sound(g: Gate, r: u8) -> Called
             gate: g,
         };
     }
-    let mut out = [0u8; Book::RUNS];
-    out[i] = 1;
+    let mut left_out = [0u8; Book::RUNS];
+    left_out[i] = 1;
     withdrawn[i] = 1;
     taken_back[i] = 1;
-    let others = book::leave_out(b, out);
+    let others = book::leave_out(b, left_out);
     Called {
         answer: Reply::TakenBack,
         gate: Gate {
@@ -259,7 +257,8 @@ fn take_back_value(g: Gate, r: u8) -> Called
     }
 }
 
-// Step r: refused by 26 where the record is not sound, then by 20, 21, 22, 23 in that order; else r joins the end of the kept list, and the answer is its place.
+// Step r: refused by 26 where the record is not sound, then by 20, 21, 22, 23 in that order; else r joins the end of the kept list, and the answer is
+// its place.
 pub fn step(g: &mut Gate, r: u8) -> Reply
     ensures { λ a. ⌜ CalledAs (now (g .entry)) (step-call r) a (now (g .exit)) ⌝ }
 {
@@ -312,148 +311,4 @@ pub fn after_take_back(g: Gate, r: u8) -> Called
     let mut h = g;
     let answer = take_back(&mut h, r);
     Called { answer, gate: h }
-}
-
-// Whether the first byte of a call is one: 0x53 for a step, 0x57 for a withdrawal, 0x54 for a take-back.
-fn is_call(op: u8) -> bool
-    ensures { λ r. ⌜ r ≡ is-call op ⌝ }
-{
-    (op == 0x53) | (op == 0x57) | (op == 0x54)
-}
-
-// One call in two bytes: 0x53 and a run steps it, 0x57 and a run withdraws it, 0x54 and a run takes it back.
-fn call_value(g: Gate, op: u8, r: u8) -> Called
-    ensures { λ x. ⌜ CalledAs g (call-of op r) (x .answer) (x .gate) ⌝ }
-{
-    if op == 0x53 {
-        return after_step(g, r);
-    }
-    if op == 0x57 {
-        return after_withdraw(g, r);
-    }
-    after_take_back(g, r)
-}
-
-// The two bytes of an answer: 0 and the place, 1 and 0 for "withdrawn", 2 and a refusal's number, 3 and 0 for "taken back".
-struct AnswerBytes {
-    first: u8,
-    second: u8,
-}
-
-fn answer_bytes(a: Reply) -> AnswerBytes
-    requires { ⌜ Low a ⌝ }
-    ensures { λ r. ⌜ BytesOf a r ⌝ }
-{
-    match a {
-        Reply::Place(p) => AnswerBytes {
-            first: 0,
-            second: p as u8,
-        },
-        Reply::Withdrawn => AnswerBytes {
-            first: 1,
-            second: 0,
-        },
-        Reply::TakenBack => AnswerBytes {
-            first: 3,
-            second: 0,
-        },
-        Reply::Refused(cause) => AnswerBytes {
-            first: 2,
-            second: book::number_of(cause),
-        },
-    }
-}
-
-// The offset of the first call that is none of 0x53, 0x57 and 0x54, or is cut off; the length where there is none.
-fn bad_call(calls: &[u8]) -> usize
-    ensures { λ r. ⌜ r ≡ bad-at 0 (now (calls .entry)) ⌝ }
-{
-    let mut at = 0;
-    while at < calls.len() {
-        if calls.len() - at < 2 {
-            return at;
-        }
-        if is_call(calls[at]) {
-            at += 2;
-        } else {
-            return at;
-        }
-    }
-    at
-}
-
-// Makes the calls in turn on the one record, and puts their answers into the buffer.
-fn play(g: Gate, calls: &[u8], answers: &mut [u8]) -> Gate
-    requires { ⌜ AnswersRoom g (calls-of (now calls)) (now answers) ⌝ }
-    ensures { λ h. ⌜ Plays g (calls-of (now (calls .entry))) (now (answers .entry)) (now (answers .exit)) h ⌝ }
-{
-    let mut h = g;
-    let n = calls.len() / 2;
-    let mut i = 0;
-    while i < n {
-        let at = i * 2;
-        let next = at + 1;
-        let op = calls[at];
-        let run = calls[next];
-        let called = call_value(h, op, run);
-        let answer = called.answer;
-        let bytes = answer_bytes(answer);
-        answers[at] = bytes.first;
-        answers[next] = bytes.second;
-        h = called.gate;
-        i += 1;
-    }
-    h
-}
-
-// What a replay answers.
-pub enum Played {
-    // The cause; its place in the book, or for 24 its offset in the list.
-    Refused(Cause, usize),
-    // All calls are made, so many.
-    Done(usize),
-}
-
-// The answer, and the record as the last call left it; where the replay is refused, as opening left it.
-pub struct Replayed {
-    pub played: Played,
-    pub gate: Gate,
-}
-
-// Opens a gate over the book, makes the calls in turn on the one record, and puts their answers in order into the buffer.
-pub fn replay(book: &[u8], calls: &[u8], answers: &mut [u8]) -> Replayed
-    ensures { λ r. ⌜ Replays (now (book .entry)) (now (calls .entry)) (now (answers .entry)) (now (answers .exit)) r ⌝ }
-{
-    let opened = open(book);
-    let answer = opened.answer;
-    let g = opened.gate;
-    match answer {
-        Answer::Refused(cause, place) => {
-            return Replayed {
-                played: Played::Refused(cause, place),
-                gate: g,
-            };
-        }
-        Answer::Accepted => {
-            let at = bad_call(calls);
-            if at != calls.len() {
-                return Replayed {
-                    played: Played::Refused(Cause::NoCall, at),
-                    gate: g,
-                };
-            }
-            let n = calls.len() / 2;
-            if answers.len() < calls.len() {
-                return Replayed {
-                    played: Played::Refused(Cause::AnswersShort, 0),
-                    gate: g,
-                };
-            }
-            let h = play(g, calls, answers);
-            return Replayed {
-                played: Played::Done(n),
-                gate: h,
-            };
-        }
-    }
 }

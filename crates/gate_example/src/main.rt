@@ -1,7 +1,7 @@
 // Document 01's gate example, run: a gate over the runs of row 2, uncut, and the answers to its eight calls, a line each. Behind them those to calls on
 // another gate over the same runs, which take runs back (document 02, change 7).
-use gate::Played;
 use libc::STDOUT_FILENO;
+use replay::Played;
 
 // A word, a number in base ten, and the line's end.
 fn write_line(word: &[u8], n: u8) {
@@ -34,7 +34,7 @@ fn write_answers(answers: &[u8]) {
 
 // Makes the calls on a gate newly opened over the book, and writes their answers.
 fn write_replay(book: &[u8], calls: &[u8], answers: &mut [u8]) {
-    let replayed = gate::replay(book, calls, answers);
+    let replayed = replay::replay(book, calls, answers);
     let played = replayed.played;
     match played {
         Played::Done(_) => write_answers(answers),

@@ -15,14 +15,14 @@ use Rattle.bits.proofs.Store.{bit-at-lt, zeros-bit}
 use Rattle.theory.specs.History.{run}
 use Rattle.theory.specs.Relative.{Depends}
 use Rattle.theory.specs.Graph.{FirstOf, LastOf, ArcD, Arc, arc-I, arc-D, arc-F, arc-B}
-use Rattle.theory.proofs.Steps.{dep-lt, dep-inside}
+use Rattle.theory.proofs.Steps.{dep-lt, dep-inside, own-depends}
 use Rattle.book.specs.Format.{run-limit, step-limit}
 use Rattle.graph.specs.Units.{EachPlace}
-use Rattle.graph.specs.Catalogue.{base, run-part}
-use Rattle.graph.specs.inner.Tables.{HistoryOf, Declared, NumberAt}
-use Rattle.graph.specs.inner.Arcs.{Gained, ArcOf, by-I, by-D, by-F, by-B, Below, ArcOfPlaces, ArcOfRuns, RunRows, TablesOf, GainedBy, ArcRows, ArcInput, Rowed}
-use Rattle.graph.proofs.Counting.{low, clash, below-next, history-length, history-run, history-small}
-use Rattle.graph.proofs.UnitSteps.{own-depends, LastSource, last-own, own-last, last-covers, last-unique, first-unique}
+use Rattle.dependence.specs.Catalogue.{base, run-part}
+use Rattle.dependence.specs.inner.Tables.{HistoryOf, Declared, NumberAt, RunRows}
+use Rattle.graph.specs.inner.Arcs.{Gained, ArcOf, by-I, by-D, by-F, by-B, Below, ArcOfPlaces, ArcOfRuns, TablesOf, GainedBy, ArcRows, ArcInput, Rowed}
+use Rattle.dependence.proofs.Counting.{low, clash, below-next, history-length, history-run, history-small}
+use Rattle.graph.proofs.UnitSteps.{LastSource, last-own, own-last, last-covers, last-unique, first-unique}
 
 -- ---- one gain after another
 

@@ -1,37 +1,30 @@
--- A valid book's arrays say of its history's steps what its contents say: conflicts, units, and where the steps stand.
-use Prim.Native.Nat.{ℕ, zero, suc, _+_, _*_, _/_, _%_, _≤_, _<_, zero-le, suc-le-suc}
-use native.Mathlib.Nat.{not-suc-le-zero, zero-add}
+-- A valid book's arrays say of its history's steps what its contents say: units, and with these and dependence the arcs.
+use Prim.Native.Nat.{ℕ, suc, _+_, _*_, _/_, _%_, _≤_, _<_, zero-le, suc-le-suc}
 use native.Mathlib.Decide.{ℕ-discrete, decLe}
 use native.Mathlib.Omega.{arith}
 use mathlib.Core.Path.{_≡_, refl, sym, ap, _∙_}
 use mathlib.Core.Logic.{inl, inr, _≢_}
 use mathlib.Core.Bool.{Bool, true, false, _&&_, not}
 use mathlib.Core.List.{List, [], _∷_, map}
-use lib.ListN.{length, getD, take, drop, List·getD-map}
-use lib.Seq.{getD-take, getD-drop, take-take}
+use lib.ListN.{length, getD, take}
 use lib.Dec.{eqb, leb}
 use borrow.Author.Tests.{leb-true, le-leb, lt-leb, eq-eqb, ne-eqb}
 use Rattle.book.specs.declared.Book.{Book}
-use Rattle.theory.specs.Lists.{sum}
 use Rattle.book.specs.Format.{run-limit, run-step-limit}
-use Rattle.book.specs.Book.{run-cuts, code-limit, flagged, cut-of, step-coded, runs-of-lengths, contents-of, Valid}
+use Rattle.book.specs.Book.{run-cuts, flagged, cut-of, contents-of, Valid}
 use Rattle.book.specs.Meaning.{conflict-of, unit-of}
 use Rattle.book.proofs.Groups.{count-flagged}
-use Rattle.book.proofs.Books.{done-within}
-use Rattle.theory.specs.History.{suc-if, count, run, ordinal}
-use Rattle.theory.specs.Relative.{Depends}
+use Rattle.theory.specs.History.{suc-if, count}
 use Rattle.theory.specs.Graph.{FirstOf, LastOf, Arc}
-use Rattle.theory.specs.Deck.{Step, no-step, Cut, step-of, conflict, unit}
-use Rattle.theory.proofs.Places.{Compared, eq-cases, ordinal-lt}
-use Rattle.graph.specs.Marks.{Marks}
+use Rattle.theory.specs.Deck.{Cut, unit}
+use Rattle.theory.proofs.Places.{Compared, eq-cases}
+use Rattle.dependence.specs.Marks.{Marks}
+use Rattle.dependence.specs.inner.Reading.{ReadFromCodes}
+use Rattle.dependence.proofs.Counting.{history-length}
+use Rattle.dependence.proofs.BookTables.{book-history, book-read}
 use Rattle.graph.specs.Units.{UnchangedFrom, UnitTables}
-use Rattle.graph.specs.inner.Tables.{Small, HistoryOf, Declared, RunsRoom, step-in, Counts, CutsOf, EachBy}
-use Rattle.graph.specs.Dependence.{StepsRead}
-use Rattle.graph.specs.inner.Reading.{ReadFromCodes}
-use Rattle.graph.specs.inner.Arcs.{RunRows, TablesOf, TablesBy, ArcRows}
-use Rattle.graph.proofs.Counting.{history-length, history-run}
-use Rattle.graph.proofs.Catalogue.{run-rows}
-use Rattle.theory.proofs.Lists.{sum-take, sum-take-le, sum-front}
+use Rattle.graph.specs.inner.Tables.{Counts, CutsOf, EachBy}
+use Rattle.graph.specs.inner.Arcs.{TablesOf, TablesBy, ArcRows}
 
 -- ---- cuts
 
@@ -92,70 +85,11 @@ cuts-of cuts = record {
         → unit (map cut-of (flagged 0 cuts)) r o (suc i) ≡ unit (map cut-of (flagged 0 cuts)) r o i + suc-if (not (eqb (getD cuts (r * run-cuts + suc i * run-limit + o) 0) 0)) 0
     next r o i ho hi = unit-next (flagged 0 cuts) r o i ho hi ∙ ap (λ (x : ℕ). unit (map cut-of (flagged 0 cuts)) r o i + x) (count-flagged cuts (r * run-cuts + suc i * run-limit + o))
 
--- ---- steps
-
-runs-get : (ns : List ℕ) (ss : List Step) (r i : ℕ) → i < getD ns r 0 → step-of (runs-of-lengths ns ss) r i ≡ getD ss (sum (take r ns) + i) no-step
-runs-get [] ss r i h = absurd (not-suc-le-zero h)
-runs-get (n ∷ ns) ss zero i h = getD-take n ss i no-step h ∙ ap (λ (x : ℕ). getD ss x no-step) (sym (zero-add i))
-runs-get (n ∷ ns) ss (suc r) i h = runs-get ns (drop n ss) r i h ∙ getD-drop n ss (sum (take r ns) + i) no-step ∙ ap (λ (x : ℕ). getD ss x no-step) (omega arith)
-
 -- ---- a valid book
 
 module _ (b : Book) (v : Valid b) where
   abbrev h : List ℕ
   h = take (b .done) (b .history)
-
-  abbrev ls : List ℕ
-  ls = take (b .declared) (b .lengths)
-
-  pub book-counts : (r : ℕ) → count h r ≤ getD (b .lengths) r 0
-  book-counts r = omega (arith, v .history .counts r, v .history .within r)
-
-  pub book-history : HistoryOf (b .history) (b .done)
-  book-history = record {
-    long = v .history .history .long;
-    within = done-within b v;
-    runs = record { small = v .history .history .small };
-    few = λ r. omega (arith, book-counts r, v .runs .lengths .small r);
-  }
-
-  pub book-steps : Small code-limit (b .steps)
-  book-steps = record { small = v .runs .steps .small }
-
-  pub book-room : RunsRoom h (b .lengths)
-  book-room = record { total = omega (arith, sum-front (b .declared) (b .lengths) (v .runs .lengths .blank), v .runs .total, v .runs .few-steps); within = book-counts }
-
-  -- the step of a place, in the contents and in the arrays
-  module _ (p : ℕ) (i : p < length h) where
-    declared : run h p < b .declared
-    declared = go (decLe (b .declared) (run h p))
-      where
-        go : Dec (b .declared ≤ run h p) → run h p < b .declared
-        go (no n) = omega arith
-        go (yes l) = absurd (none (v .runs .lengths .blank (run h p) l))
-          where
-            none : getD (b .lengths) (run h p) 0 ≡ 0 → ⊥
-            none e = omega (arith, ordinal-lt h p i, book-counts (run h p))
-
-    in-run : ordinal h p < getD ls (run h p) 0
-    in-run = rw (getD-take (b .declared) (b .lengths) (run h p) 0 declared) (omega (arith, ordinal-lt h p i, book-counts (run h p)))
-
-    start : sum (take (run h p) (b .lengths)) ≡ sum (take (run h p) ls)
-    start = ap sum (sym (take-take (run h p) (b .declared) (b .lengths) (omega (arith, declared))))
-
-    in-steps : sum (take (run h p) (b .lengths)) + ordinal h p < b .total
-    in-steps = omega (arith, start, in-run, sum-take ls (run h p), sum-take-le ls (suc (run h p)), v .runs .total)
-
-    pub step-is : step-of (contents-of b .runs) (run h p) (ordinal h p) ≡ step-in (b .steps) (sum (take (run h p) (b .lengths)) + ordinal h p)
-    unfolding contents-of
-    step-is =
-        runs-get ls (map step-coded (take (b .total) (b .steps))) (run h p) (ordinal h p) in-run
-        ∙ ap (λ (x : ℕ). getD (map step-coded (take (b .total) (b .steps))) (x + ordinal h p) no-step) (sym start)
-        ∙ List·getD-map step-coded (take (b .total) (b .steps)) (sum (take (run h p) (b .lengths)) + ordinal h p) 0
-        ∙ ap step-coded (getD-take (b .total) (b .steps) (sum (take (run h p) (b .lengths)) + ordinal h p) 0 in-steps)
-
-  pub book-declared : Declared (b .history) (b .done) (b .declared)
-  book-declared = record { few = v .runs .few-runs; declared = λ p i. rw (history-run (b .history) (b .done) p i) at (declared p (rw (history-length book-history) i)) }
 
   pub book-cuts : CutsOf (unit-of (contents-of b)) (b .cuts)
   unfolding contents-of
@@ -168,28 +102,13 @@ module _ (b : Book) (v : Valid b) where
       → EachBy LastOf (b .cuts) h 0 (b .done) lasts′ → UnchangedFrom (b .done) lasts lasts′ → UnitTables (unit-of (contents-of b)) (contents-of b .history) firsts firsts′ lasts lasts′
   unfolding contents-of
   book-units firsts firsts′ lasts lasts′ f fk l lk =
-      let e : length h ≡ b .done = history-length book-history in
+      let e : length h ≡ b .done = history-length (book-history b v) in
       record {
         firsts-are = rw e (f .of (unit-of (contents-of b)) book-cuts);
         firsts-unchanged = rw e fk;
         lasts-are = rw e (l .of (unit-of (contents-of b)) book-cuts);
         lasts-unchanged = rw e lk;
       }
-
-  -- ---- dependence
-
-  unfoldable pub book-read : (catalogue seconds dep : List ℕ) → ReadFromCodes (b .pairs) h (b .lengths) (b .steps) catalogue seconds dep
-      → StepsRead (contents-of b .pairs) (contents-of b .runs) (contents-of b .history) catalogue seconds dep
-  unfolding contents-of
-  book-read catalogue seconds dep r = r .read (contents-of b .runs) (record { at = step-is })
-
-  pub book-dependences : (catalogue seconds dep : List ℕ) → ReadFromCodes (b .pairs) h (b .lengths) (b .steps) catalogue seconds dep
-      → Marks (Depends (conflict-of (contents-of b)) (contents-of b .history)) dep
-  book-dependences catalogue seconds dep r = book-read catalogue seconds dep r .so-far
-
-  pub book-run-rows : (catalogue seconds dep : List ℕ) → ReadFromCodes (b .pairs) h (b .lengths) (b .steps) catalogue seconds dep → RunRows h (b .done) catalogue
-  unfolding contents-of
-  book-run-rows catalogue seconds dep r = run-rows (contents-of b .pairs) (contents-of b .runs) h catalogue (b .done) (history-length book-history) (book-read catalogue seconds dep r .firsts-catalogued)
 
   -- ---- arcs
 
@@ -199,7 +118,7 @@ module _ (b : Book) (v : Valid b) where
   unfolding contents-of
   book-tables catalogue seconds dep firsts firsts′ lasts lasts′ d u = record {
     rises = book-cuts .rises;
-    dep-marks = book-read catalogue seconds dep d .so-far;
+    dep-marks = book-read b v catalogue seconds dep d .so-far;
     firsts-are = u .firsts-are;
     lasts-are = u .lasts-are;
   }

@@ -16,8 +16,9 @@ use Rattle.theory.specs.inner.Places.{place-of}
 use Rattle.theory.proofs.Lists.{count-take-lt, count-take-ne, count-take-le, getD-zeros}
 use Rattle.theory.proofs.Places.{place-of-back}
 use Rattle.book.specs.Format.{run-limit, run-step-limit, step-limit}
-use Rattle.graph.specs.inner.Tables.{places-size, HistoryOf, Numbering}
-use Rattle.graph.proofs.Counting.{low, below-next, history-length, history-run}
+use Rattle.dependence.specs.inner.Tables.{HistoryOf}
+use Rattle.graph.specs.inner.Tables.{places-size, Numbering}
+use Rattle.dependence.proofs.Counting.{low, below-next, history-length, history-run}
 
 -- the places below p are numbered, and counts has how many there are of each run
 pub record NumberedBelow (h ordinals places counts : List ℕ) (n p : ℕ) : Type 0 where

@@ -1,5 +1,5 @@
 -- The first and the last place of each unit. A step has those of the step next to it, unless there is a cut between the two as seen by the run.
-use Prim.Native.Nat.{ℕ, suc, _+_, _-_, _*_, _≤_, _<_}
+use Prim.Native.Nat.{ℕ, zero, suc, _+_, _-_, _*_, _≤_, _<_}
 use native.Mathlib.Nat.{lt-of-not-le}
 use native.Mathlib.Decide.{ℕ-discrete, decLt}
 use native.Mathlib.Omega.{arith}
@@ -17,9 +17,20 @@ use Rattle.theory.proofs.Steps.{unit-refl, unit-sym}
 use Rattle.book.specs.Format.{run-limit, run-step-limit, step-limit}
 use Rattle.graph.specs.Units.{units-size, EachPlace, UnchangedFrom}
 use Rattle.book.specs.Book.{run-cuts}
-use Rattle.graph.specs.inner.Tables.{places-size, HistoryOf, Numbering, Counts, CutsOf, EachBy, RowRoom, RowSet, by-flag, copied-row}
+use Rattle.dependence.specs.inner.Tables.{HistoryOf}
+use Rattle.graph.specs.inner.Tables.{places-size, Numbering, Counts, CutsOf, EachBy, RowRoom, RowSet, by-flag, copied-row}
 use Rattle.graph.proofs.UnitSteps.{first-from, last-from}
-use Rattle.graph.proofs.Counting.{low, below-next, flag-none, flag-some, history-length, history-run}
+use Rattle.dependence.proofs.Counting.{low, below-next, history-length, history-run}
+
+-- ---- what a flag chooses
+
+-- what stands where there is no flag, and where there is one
+pub flag-none : (n a b : ℕ) → n ≡ 0 → by-flag n a b ≡ a
+flag-none n a b e = rw e
+
+pub flag-some : (n a b : ℕ) → n ≢ 0 → by-flag n a b ≡ b
+flag-some zero a b n = absurd (n refl)
+flag-some (suc m) a b n = refl
 
 -- ---- a row, an entry for each run
 

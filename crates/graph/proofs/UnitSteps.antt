@@ -10,12 +10,11 @@ use mathlib.Core.Bool.{Bool}
 use mathlib.Core.List.{List}
 use lib.ListN.{length}
 use Rattle.theory.specs.History.{count, run, ordinal}
-use Rattle.theory.specs.Relative.{Depends, direct, InUnit}
+use Rattle.theory.specs.Relative.{Depends, InUnit}
 use Rattle.theory.specs.Graph.{FirstOf, LastOf, ArcI, ArcD}
 use Rattle.theory.specs.inner.Places.{place-of}
 use Rattle.theory.proofs.Places.{IsPlace, place-of-spec, place-of-ordinal, ordinal-lt, ordinal-mono}
-use Rattle.theory.proofs.Steps.{dep-lt, dep-inside, unit-sym, unit-trans}
-use Rattle.graph.proofs.DependenceRows.{dep-trans}
+use Rattle.theory.proofs.Steps.{dep-lt, dep-inside, own-depends, depends-earlier, unit-sym, unit-trans}
 
 module _ (unit : ℕ → ℕ → ℕ → ℕ) (h : List ℕ) (o : ℕ) where
   pub first-from : (p q f : ℕ) → InUnit unit h o p q → FirstOf unit h o q f → FirstOf unit h o p f
@@ -38,18 +37,6 @@ ordinal-le h a b l i e = go (ℕ-discrete a b)
     go (no n) = omega (arith, ordinal-mono h a b (omega arith) i e)
 
 module _ (conflict : ℕ → ℕ → ℕ → ℕ → Bool) (h : List ℕ) where
-  -- a step depends on the earlier ones of its run
-  pub own-depends : (a b : ℕ) → a < b → b < length h → run h a ≡ run h b → Depends conflict h a b
-  own-depends a b l i e = direct (record { before = l; inside = i; linked = inl e })
-
-  -- what q depends on in a run is a prefix of the run
-  pub depends-earlier : (a b q : ℕ) → a ≤ b → run h a ≡ run h b → Depends conflict h b q → Depends conflict h a q
-  depends-earlier a b q l e d = go (ℕ-discrete a b)
-    where
-      go : Dec (a ≡ b) → Depends conflict h a q
-      go (yes z) = rw z d
-      go (no n) = dep-trans (own-depends a b (omega arith) (omega (arith, dep-lt conflict d, dep-inside conflict d)) e) d
-
   -- l is the last place of run r that q depends on
   pub record LastSource (r q l : ℕ) : Type 0 where
     pub runs : run h l ≡ r
@@ -91,10 +78,10 @@ module _ (conflict : ℕ → ℕ → ℕ → ℕ → Bool) (h : List ℕ) where
                     over z = omega (arith, e, place-of-ordinal h (run h q) m im)
 
                 k-le : place-of h (run h q) m ≤ l
-                k-le = w .last (place-of h (run h q) m) (t .1) (own-depends (place-of h (run h q) m) q (k-lt (decLt (place-of h (run h q) m) q)) inside (t .1))
+                k-le = w .last (place-of h (run h q) m) (t .1) (own-depends conflict h (place-of h (run h q) m) q (k-lt (decLt (place-of h (run h q) m) q)) inside (t .1))
 
     pub own-last : (x : ℕ) → ArcI h x q → x ≡ l
-    own-last x a = le-antisymm (w .last x (a .runs) (own-depends x q (a .before) (a .inside) (a .runs))) (low (decLt x l))
+    own-last x a = le-antisymm (w .last x (a .runs) (own-depends conflict h x q (a .before) (a .inside) (a .runs))) (low (decLt x l))
       where
         low : Dec (x < l) → l ≤ x
         low (no n) = omega arith
@@ -128,5 +115,5 @@ module _ (conflict : ℕ → ℕ → ℕ → ℕ → Bool) (h : List ℕ) where
             upper = rw (f .member .units) at (rises (run h p) (run h q) (ordinal h l) (ordinal h x) (ordinal-le h l x (omega arith) (f .inside) (sym same)))
 
         go : Dec (l < x) → ArcD conflict h x q ⊎ LastOf unit h (run h q) l x
-        go (no n) = inl (record { other = λ z. d .other (sym (f .member .runs) ∙ z); depends = depends-earlier x l q (omega arith) same (w .depends) })
+        go (no n) = inl (record { other = λ z. d .other (sym (f .member .runs) ∙ z); depends = depends-earlier conflict h x l q (omega arith) same (w .depends) })
         go (yes i) = inr (last-from unit h (run h q) l p x (unit-sym unit (between i)) f)

@@ -1,7 +1,3 @@
--- What the public calls promise: Marks, Units. Dependence: the rows after each step of the history; Catalogue: what else is kept of the steps read.
--- inner is no part of a statement.
-pub mod Marks
+-- What the public calls promise: Units, and of dependence's specs Marks. inner is no part of a statement.
 pub mod Units
-pub mod Catalogue
-pub mod Dependence
 pub mod inner

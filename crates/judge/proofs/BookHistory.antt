@@ -7,17 +7,18 @@ use Rattle.theory.specs.Relative.{RelativelySerializable}
 use Rattle.theory.proofs.DeckLaws.{lawful}
 use Rattle.theory.specs.Answers.{Answers}
 use Rattle.graph.specs.inner.Arcs.{TablesBy, TablesOf, ArcRows}
-use Rattle.graph.proofs.BookTables.{book-history, book-some-tables, book-arcs}
+use Rattle.dependence.proofs.BookTables.{book-history}
+use Rattle.graph.proofs.BookTables.{book-some-tables, book-arcs}
 use Rattle.book.specs.Meaning.{conflict-of, unit-of}
 use Rattle.book.specs.Book.{contents-of, Valid}
 use Rattle.book.specs.declared.Book.{Book}
 use Rattle.judge.specs.Judged.{JudgedAs}
-use Rattle.judge.specs.inner.Turns.{TurnsTaken}
+use Rattle.turns.specs.inner.Turns.{TurnsTaken}
 use Rattle.judge.specs.inner.Arcs.{ArcTable, JudgedArcs, JudgedTables}
 use Rattle.judge.specs.inner.Names.{EvidenceNamed, EvidenceNamedBy}
 use Rattle.judge.specs.declared.Verdict.{Verdict}
 use Rattle.judge.specs.declared.Judgement.{Judgement}
-use Rattle.judge.specs.declared.Turns.{Turns}
+use Rattle.turns.specs.declared.Turns.{Turns}
 use Rattle.judge.proofs.Verdicts.{passes-by}
 
 module _ (h dep firsts lasts arc : List ℕ) (r : ArcRows h dep firsts lasts arc) where

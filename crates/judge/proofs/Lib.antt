@@ -1,7 +1,4 @@
 -- The laws that the proofs of `judge` cite.
---   ReadyPlaces   sets of places as rows of bits, and the smallest ready place: `is_ready`, `untaken`, `ready`
---   GreedyTurns   a turn of `greedy` is one of theory's greedy order
---   WalkBack      `find_cycle`: the places walked are distinct, so one comes again
 --   Verdicts      `judge_arcs`, `passes`: turns that take every place are a relatively serial order; else there is a cycle
 --   NamedCycles   `name_arcs`: the value of the names of each arc of a cycle
 --   BookHistory   `judge_tables`, `judge_book`, `passes`: a history's arcs by its tables, and a valid book's tables
@@ -9,9 +6,6 @@
 --   Uncut         for demand 2: passed exactly if relatively serializable, and without cuts if conflict serializable
 -- `judge` meets `BytesJudged` by Bytes, from `judge_book`, which judges graph's table of arcs. Verdicts makes PassedAs of the turns by theory's
 -- `whole-greedy`, and TangledAs of the walk back by theory's `cycle-refutes`.
-pub mod ReadyPlaces
-pub mod GreedyTurns
-pub mod WalkBack
 pub mod Verdicts
 pub mod NamedCycles
 pub mod BookHistory

@@ -21,16 +21,16 @@ use Rattle.theory.proofs.Theorem.{whole-greedy}
 use Rattle.buffer.specs.Put.{Put}
 use Rattle.book.specs.Format.{step-limit}
 use Rattle.theory.specs.Answers.{Answers}
-use Rattle.graph.specs.Marks.{Marks}
-use Rattle.graph.specs.inner.Tables.{HistoryOf}
-use Rattle.graph.proofs.Counting.{history-length}
+use Rattle.dependence.specs.Marks.{Marks}
+use Rattle.dependence.specs.inner.Tables.{HistoryOf}
+use Rattle.dependence.proofs.Counting.{history-length}
 use Rattle.judge.specs.Judged.{PassedAs, TangledAs}
-use Rattle.judge.specs.inner.Turns.{NoneReady, TakenAs, TurnsTaken}
-use Rattle.judge.specs.inner.Cycles.{ArcIn, Stuck, CycleIn}
+use Rattle.turns.specs.inner.Turns.{NoneReady, TakenAs, TurnsTaken}
+use Rattle.turns.specs.inner.Cycles.{ArcIn, Stuck, CycleIn}
 use Rattle.judge.specs.inner.Arcs.{ArcTable, JudgedArcs}
-use Rattle.judge.specs.declared.Turns.{Turns}
+use Rattle.turns.specs.declared.Turns.{Turns}
 use Rattle.judge.specs.declared.Verdict.the-variants.{Passed, Tangled}
-use Rattle.judge.proofs.GreedyTurns.{ready-in}
+use Rattle.turns.proofs.GreedyTurns.{ready-in}
 
 -- where the turns take n places, they have n
 pub turns-long : (history : List ℕ) (n : ℕ) (arc : List ℕ) (t : Turns) → TurnsTaken history n arc t → t .count ≡ n → length (take n (t .order)) ≡ n

@@ -1,5 +1,3 @@
 -- What functions promise one another, also between crates: no part of what a user is promised.
-pub mod Turns
-pub mod Cycles
 pub mod Names
 pub mod Arcs

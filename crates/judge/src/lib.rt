@@ -1,6 +1,4 @@
 // The judge: the order that takes the smallest ready place at each turn, or a cycle and the names of its arcs, in buffers that the caller lends.
-use bits::Found;
-use bits::Row;
 use bits::Table;
 use book::Answer;
 use book::Book;
@@ -9,19 +7,16 @@ use graph::Units;
 ghost use mathlib.Core.Path.{_≡_};
 ghost use Prim.Native.Nat.{_<_, _≤_};
 ghost use lib.ListN.{length, take};
-ghost use Rattle.bits.specs.Table.{row-bits};
 ghost use Rattle.book.specs.Format.{step-limit};
 ghost use Rattle.book.specs.Meaning.{conflict-of, unit-of, RelativelySerializableHistory};
 ghost use Rattle.book.specs.Book.{contents-of, Valid};
 ghost use Rattle.theory.specs.Answers.{Answers};
-ghost use Rattle.graph.specs.inner.Tables.{HistoryOf, Declared};
-ghost use Rattle.graph.specs.inner.Arcs.{RunRows, TablesOf};
+ghost use Rattle.dependence.specs.inner.Tables.{HistoryOf, Declared, RunRows};
+ghost use Rattle.graph.specs.inner.Arcs.{TablesOf};
 ghost use Rattle.judge.specs.Judged.{JudgedAs};
 ghost use Rattle.judge.specs.Judge.{BytesJudged};
 ghost use Rattle.judge.specs.Front.{front-of, front-at};
 ghost use Rattle.judge.specs.declared.Verdict.the-variants.{Refused};
-ghost use Rattle.judge.specs.inner.Turns.{ReadyIn, AllTaken, FirstUntaken, FirstReady, TurnsTaken};
-ghost use Rattle.judge.specs.inner.Cycles.{Stuck, CycleIn};
 ghost use Rattle.judge.specs.inner.Arcs.{ArcTable, JudgedArcs, JudgedTables};
 ghost use Rattle.judge.specs.inner.Names.{After, ValueBy, ValuesBy, CycleCounted, EvidenceNamed, EvidenceNamedBy};
 
@@ -38,123 +33,6 @@ pub struct Judgement {
     pub count: usize,
 }
 
-// The turns so far: how many, the run numbers of the places taken, in that order, and the set of these places.
-struct Turns {
-    count: usize,
-    order: [u8; Book::STEPS],
-    taken: Row,
-}
-
-// Whether p is not taken and all sources of its arcs are.
-fn is_ready(arc: &Table, taken: &Row, p: usize) -> bool
-    requires { ⌜ p < row-bits ⌝ }
-    ensures { λ r. ⌜ Answers (ReadyIn (now (arc .entry)) (now (taken .entry)) p) r ⌝ }
-{
-    if bits::has(taken, p) {
-        return false;
-    }
-    bits::within(arc, p, taken)
-}
-
-// The smallest place that is not taken, or n; those below `from` are taken.
-fn untaken(taken: &Row, from: usize, n: usize) -> usize
-    requires { ⌜ (n ≤ row-bits) × (from ≤ n) × AllTaken (now taken) from ⌝ }
-    ensures { λ r. ⌜ FirstUntaken (now (taken .entry)) n r ⌝ }
-{
-    let mut p = from;
-    while p < n {
-        if bits::has(taken, p) {
-            p += 1;
-        } else {
-            return p;
-        }
-    }
-    p
-}
-
-// The smallest ready place; those below `from` are taken.
-fn ready(arc: &Table, taken: &Row, from: usize, n: usize) -> Found
-    requires { ⌜ (n ≤ row-bits) × (from ≤ n) × AllTaken (now taken) from ⌝ }
-    ensures { λ r. ⌜ FirstReady (now (arc .entry)) (now (taken .entry)) n r ⌝ }
-{
-    let mut p = from;
-    while p < n {
-        if is_ready(arc, taken, p) {
-            return Found::At(p);
-        }
-        p += 1;
-    }
-    Found::Nothing
-}
-
-// Turn by turn the smallest ready place, as far as it goes.
-fn greedy(history: &[u8; Book::STEPS], n: usize, arc: &Table) -> Turns
-    requires { ⌜ HistoryOf (now history) n ⌝ }
-    ensures { λ r. ⌜ TurnsTaken (now (history .entry)) n (now (arc .entry)) r ⌝ }
-{
-    let mut order = [0u8; Book::STEPS];
-    let mut taken = [0u64; bits::ROW_WORDS];
-    let mut from = 0;
-    let mut count = 0;
-    while count < n {
-        match ready(arc, &taken, from, n) {
-            Found::At(p) => {
-                order[count] = history[p];
-                bits::add(&mut taken, p);
-                from = untaken(&taken, from, n);
-                count += 1;
-            }
-            Found::Nothing => {
-                return Turns {
-                    count,
-                    order,
-                    taken,
-                };
-            }
-        }
-    }
-    Turns {
-        count,
-        order,
-        taken,
-    }
-}
-
-// A cycle of the arcs, where no place is ready: back from source to source, none of them taken, until a place comes again.
-fn find_cycle(arc: &Table, n: usize, taken: &Row, cycle: &mut [u8]) -> usize
-    requires { ⌜ Stuck (now arc) (now taken) n × (step-limit ≤ length (now cycle)) ⌝ }
-    ensures { λ r. ⌜ CycleIn (now (arc .entry)) n (now (cycle .entry)) (now (cycle .exit)) r ⌝ }
-{
-    // The walk stands at the end of `trail`, its last place first; `seen` has the number of each place on it, from 1.
-    let mut trail = [0u8; Book::STEPS];
-    let mut seen = [0u8; Book::STEPS];
-    let mut v = untaken(taken, 0, n);
-    let mut len = 0;
-    while len < Book::STEPS {
-        len += 1;
-        trail[Book::STEPS - len] = v as u8;
-        seen[v] = len as u8;
-        match bits::first_outside(arc, v, taken) {
-            Found::At(x) => {
-                let s = book::wide(seen[x]);
-                if s != 0 {
-                    let walk = &trail[..];
-                    let at = Book::STEPS - len;
-                    let end = Book::STEPS + 1 - s;
-                    return buffer::put_bytes(&walk[at..end], cycle);
-                }
-                v = x;
-            }
-            // Never: v is not ready.
-            Found::Nothing => {
-                return 0;
-            }
-        }
-    }
-    // Never: the walk has at most n places.
-    0
-}
-
 // The judge of the first n places of a history, whose arcs the table marks.
 fn judge_arcs(
     history: &[u8; Book::STEPS],
@@ -166,7 +44,7 @@ fn judge_arcs(
     requires { ⌜ HistoryOf (now history) n × ArcTable (take n (now history)) (now arc) × (step-limit ≤ length (now order)) × (step-limit ≤ length (now cycle)) ⌝ }
     ensures { λ r. ⌜ JudgedArcs (take n (now (history .entry))) (now (arc .entry)) (now (order .entry)) (now (order .exit)) (now (cycle .entry)) (now (cycle .exit)) r ⌝ }
 {
-    let t = greedy(history, n, arc);
+    let t = turns::greedy(history, n, arc);
     if t.count == n {
         let turns = t.order;
         buffer::put_bytes(&turns[..n], order);
@@ -176,7 +54,7 @@ fn judge_arcs(
         };
     }
     let taken = t.taken;
-    let count = find_cycle(arc, n, &taken, cycle);
+    let count = turns::find_cycle(arc, n, &taken, cycle);
     Judgement {
         verdict: Verdict::Tangled,
         count,
@@ -298,19 +176,9 @@ fn judge_tables(
         lasts,
         &mut arc,
     );
-    let judgement = judge_arcs(history, n, &arc, order, cycle);
-    name_evidence(
-        history,
-        n,
-        catalogue,
-        dep,
-        firsts,
-        lasts,
-        judgement,
-        cycle,
-        values,
-    );
-    judgement
+    let j = judge_arcs(history, n, &arc, order, cycle);
+    name_evidence(history, n, catalogue, dep, firsts, lasts, j, cycle, values);
+    j
 }
 
 // The judge of a valid book's history. If it is tangled, `values` has the value of the names of each arc of the cycle, for whoever prints them.
@@ -362,7 +230,7 @@ pub fn passes(b: Book) -> bool
         &lasts,
         &mut arc,
     );
-    let turns = greedy(&history, n, &arc);
+    let turns = turns::greedy(&history, n, &arc);
     turns.count == n
 }
 

@@ -24,18 +24,17 @@ use Rattle.theory.specs.Answers.{Answers}
 use Rattle.theory.proofs.Answered.{answer-no}
 use Rattle.theory.proofs.Finite.{is-yes}
 use Rattle.theory.proofs.Places.{ordinal-mono}
-use Rattle.theory.proofs.Steps.{dep-lt, dep-inside, unit-sym}
+use Rattle.theory.proofs.Steps.{dep-lt, dep-inside, own-depends, depends-earlier, depends-later, unit-sym}
 use Rattle.theory.proofs.Decided.{arc-source, arc-target, dec-arc-I, dec-arc-D, dec-arc-F, dec-arc-B}
 use Rattle.book.specs.Format.{run-limit, step-limit}
-use Rattle.graph.specs.Catalogue.{base, run-part}
+use Rattle.dependence.specs.Catalogue.{base, run-part}
 use Rattle.names.specs.Names.{names-of}
-use Rattle.graph.specs.inner.Tables.{HistoryOf, NumberAt}
-use Rattle.graph.specs.inner.Arcs.{RunRows, TablesOf, Rowed}
+use Rattle.dependence.specs.inner.Tables.{HistoryOf, NumberAt, RunRows}
+use Rattle.graph.specs.inner.Arcs.{TablesOf, Rowed}
 use Rattle.names.specs.inner.Tables.{LastLeads, FirstLed, no-names, NamesBy}
 use Rattle.names.specs.declared.ArcNames.{ArcNames}
-use Rattle.graph.proofs.Counting.{clash, history-length, history-run, history-small}
-use Rattle.graph.proofs.DependenceRows.{dep-trans}
-use Rattle.graph.proofs.UnitSteps.{own-depends, depends-earlier, LastSource, last-own, first-from, last-from, first-unique, last-unique}
+use Rattle.dependence.proofs.Counting.{clash, history-length, history-run, history-small}
+use Rattle.graph.proofs.UnitSteps.{LastSource, last-own, first-from, last-from, first-unique, last-unique}
 use Rattle.graph.proofs.ArcMarks.{rowed}
 
 -- ---- the names that hold
@@ -299,21 +298,13 @@ module _ (history : List ℕ) (n : ℕ) (dep firsts lasts : List ℕ) (hs : Hist
           first = first-from (a .unit) (take n history) (run (take n history) x) y-last y y (unit-sym (a .unit) (y-last-is .member)) (subst (FirstOf (a .unit) (take n history) (run (take n history) x) y) (w .begins) y-first-is);
         }
 
-        -- what q depends on, a later step of its run depends on too
-        depends-later : (q k : ℕ) → q ≤ k → k < length (take n history) → run (take n history) q ≡ run (take n history) k → Depends (a .conflict) (take n history) x q → Depends (a .conflict) (take n history) x k
-        depends-later q k l i e d = go (ℕ-discrete q k)
-          where
-            go : Dec (q ≡ k) → Depends (a .conflict) (take n history) x k
-            go (yes z) = rw (← z) d
-            go (no z) = dep-trans d (own-depends (a .conflict) (take n history) q k (omega arith) i e)
-
         b-complete : ArcB (a .conflict) (a .unit) (take n history) x y → FirstLed dep firsts lasts (run (take n history) x) x y
         b-complete c =
             let u = unit-sym (a .unit) (c .first .member) in
             let l = y-last-is .last (c .q) (dep-inside (a .conflict) (c .arc .depends)) u in
             record {
               begins = first-unique (a .unit) (take n history) (run (take n history) x) y _ y y-first-is (first-from (a .unit) (take n history) (run (take n history) x) y (c .q) y u (c .first));
-              depends = marked-by (depends-later (c .q) y-last l (y-last-is .inside) (u .runs ∙ sym (y-last-is .member .runs)) (c .arc .depends));
+              depends = marked-by (depends-later (a .conflict) (take n history) x (c .q) y-last l (y-last-is .inside) (u .runs ∙ sym (y-last-is .member .runs)) (c .arc .depends));
             }
 
         across : (d f b : Bool) → d ≡ eqb (bit-at dep y x) 1 → Answers (LastLeads dep firsts lasts (run (take n history) y) x y) f → Answers (FirstLed dep firsts lasts (run (take n history) x) x y) b

@@ -11,9 +11,9 @@ ghost use Rattle.theory.specs.Answers.{Answers};
 ghost use Rattle.bits.specs.Table.{rows, bit-at, intersection};
 ghost use Rattle.bits.specs.Last.{LastAt};
 ghost use Rattle.book.specs.Format.{run-limit, step-limit};
-ghost use Rattle.graph.specs.Catalogue.{base, run-part};
-ghost use Rattle.graph.specs.inner.Tables.{HistoryOf};
-ghost use Rattle.graph.specs.inner.Arcs.{RunRows, TablesOf, Rowed};
+ghost use Rattle.dependence.specs.Catalogue.{base, run-part};
+ghost use Rattle.dependence.specs.inner.Tables.{HistoryOf, RunRows};
+ghost use Rattle.graph.specs.inner.Arcs.{TablesOf, Rowed};
 ghost use Rattle.names.specs.Names.{names-value};
 ghost use Rattle.names.specs.inner.Tables.{LastLeads, FirstLed, no-names, NamesBy};
 
@@ -44,7 +44,7 @@ fn is_last(catalogue: &Table, dep: &Table, s: usize, x: usize, y: usize) -> bool
     requires { ⌜ (s < run-limit) × (y < rows) ⌝ }
     ensures { λ r. ⌜ Answers (LastAt (intersection (bit-at (now (dep .entry)) y) (bit-at (now (catalogue .entry)) (run-part * base + s))) x) r ⌝ }
 {
-    let mask = graph::run_places(catalogue, s);
+    let mask = dependence::run_places(catalogue, s);
     match bits::last_within(dep, y, &mask) {
         Found::At(l) => l == x,
         Found::Nothing => false,
@@ -122,8 +122,8 @@ pub fn arc_names(
     if y >= n {
         return no_arcs();
     }
-    let r = graph::run_of(history, x);
-    let s = graph::run_of(history, y);
+    let r = dependence::run_of(history, x);
+    let s = dependence::run_of(history, y);
     if r == s {
         let i = is_last(catalogue, dep, s, x, y);
         return ArcNames {

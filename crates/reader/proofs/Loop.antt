@@ -159,6 +159,9 @@ module _ (ρ : Rules) (s : List ℕ) (b : Book) (at : ℕ) (p : Progress) (c : P
     pub step-declared : 1 ≤ p .declared
     step-declared = omega (arith, step-room .declared)
 
+    pub step-run : p .declared - 1 < run-limit
+    step-run = omega (arith, step-room .declared, i .underway .valid .runs .few-runs)
+
     pub step-few : p .total < step-limit
     step-few = step-room .few
 
@@ -205,17 +208,20 @@ pub long-refused : (ρ : Rules) (s : List ℕ) (r : Reading) → ρ .«length_li
 unfolding read-by
 long-refused ρ s r h g = rw (lt-leb _ _ h) g
 
--- the loop ends; p₀ is the progress at its beginning
-module _ (ρ : Rules) (s : List ℕ) (b : Book) (at : ℕ) (p₀ p : Progress) (c : Parsed) (next : ℕ) (r : Reading) (l : length s ≤ ρ .«length_limit») (o : p₀ ≡ at-start ρ) (i : Rest (p₀ .rules) s b at p)
-    (w : CommandReadAs (b .lengths) (b .counts) s at p c next) where
-  whole : (o′ : Outcome) → command-at (p₀ .rules) s at (read-state-of b p) ≡ over o′ → o′ ≡ read-by ρ s
-  unfolding read-by
-  whole o′ e = stops (p₀ .rules) s b at p c next i w o′ e (i .fuel) (i .enough) (i .rest) ∙ ap (λ (q : Progress). read-commands (q .rules) s) o ∙ rw (le-leb _ _ l)
+pub short-read : (ρ : Rules) (s : List ℕ) (r : Reading) → length s ≤ ρ .«length_limit» → ReadAs (read-commands ρ s) r → ReadAs (read-by ρ s) r
+unfolding read-by
+short-read ρ s r h g = rw (le-leb _ _ h) g
 
-  pub ends-refused : (cause : Cause) (place : ℕ) → c ≡ Refused cause place → ReadAs (refused cause place) r → ReadAs (read-by ρ s) r
+-- the loop ends; p₀ is the progress at its beginning
+module _ (ρ : Rules) (s : List ℕ) (b : Book) (at : ℕ) (p₀ p : Progress) (c : Parsed) (next : ℕ) (r : Reading) (o : p₀ ≡ at-start ρ) (i : Rest (p₀ .rules) s b at p)
+    (w : CommandReadAs (b .lengths) (b .counts) s at p c next) where
+  whole : (o′ : Outcome) → command-at (p₀ .rules) s at (read-state-of b p) ≡ over o′ → o′ ≡ read-commands ρ s
+  whole o′ e = stops (p₀ .rules) s b at p c next i w o′ e (i .fuel) (i .enough) (i .rest) ∙ ap (λ (q : Progress). read-commands (q .rules) s) o
+
+  pub ends-refused : (cause : Cause) (place : ℕ) → c ≡ Refused cause place → ReadAs (refused cause place) r → ReadAs (read-commands ρ s) r
   ends-refused cause place e g = rw (← whole (refused cause place) (moves (p₀ .rules) s b at p c next i w (Refused cause place) e)) g
 
-  pub ends-accepted : c ≡ End → r ≡ accepted-as b p → ReadAs (read-by ρ s) r
+  pub ends-accepted : c ≡ End → r ≡ accepted-as b p → ReadAs (read-commands ρ s) r
   ends-accepted e f =
       rw (f, ← whole (accepted (contents-of (so-far b p))) (moves (p₀ .rules) s b at p c next i w End e))
       (record { outcome = refl; valid = i .underway .valid; empty = λ k q d. let z : _≡_ {A = ℕ} 0 1 = cc in absurd (omega arith) })

@@ -8,8 +8,9 @@ use book::Step;
 use book::Touch;
 use book::wide;
 ghost use mathlib.Core.Path.{_≡_};
-ghost use Prim.Native.Nat.{_+_, _*_, _<_};
-ghost use Rattle.book.specs.Format.{kind-limit, position-limit, run-limit, run-step-limit, step-limit, refused, step, width, touch-of-bytes, obey, pair-at, run-at, single-at, transfer-at, cut-at, done-at, end-at, command-at, read-by, read};
+ghost use Prim.Native.Nat.{_+_, _*_, _≤_, _<_};
+ghost use lib.ListN.{length};
+ghost use Rattle.book.specs.Format.{kind-limit, position-limit, run-limit, run-step-limit, step-limit, refused, step, width, touch-of-bytes, obey, pair-at, run-at, single-at, transfer-at, cut-at, done-at, end-at, command-at, read-commands, read-by, read};
 ghost use Rattle.book.specs.Book.{pairs-size, cuts-size, run-cuts, as-touch, as-step, Fitting, ReadAs};
 ghost use Rattle.reader.specs.inner.Reader.{at-start, past-pair, past-run, past-step, past-cut, past-done, accepted-as, Limited, Inside, Any, Lengths, Tables, width-of, Decides, PositionsLow, StepTested, MayTake, CommandReadAs};
 
@@ -437,15 +438,11 @@ fn next_command<'a, 't>(
     }
 }
 
-// Reads a book of a dialect whose steps and bytes are no more than a book's tables have room for. The commands are read in turn: `next_command`
-// says what each adds, and that is stored where it belongs.
-pub fn read_by(rules: Rules, s: &[u8]) -> Reading
-    requires { ⌜ Fitting rules ⌝ }
-    ensures { λ r. ⌜ ReadAs (read-by rules (now (s .entry))) r ⌝ }
+// The commands are read in turn: `next_command` says what each adds, and that is stored where it belongs.
+fn read_commands(rules: Rules, s: &[u8]) -> Reading
+    requires { ⌜ Fitting rules × (length (now s) ≤ rules .«length_limit») ⌝ }
+    ensures { λ r. ⌜ ReadAs (read-commands rules (now (s .entry))) r ⌝ }
 {
-    if s.len() > rules.length_limit as usize {
-        return refuse(Cause::BookTooLong, 0);
-    }
     let mut book = Book::empty();
     let mut p = Progress::start(rules);
     let mut at: usize = 0;
@@ -480,6 +477,17 @@ pub fn read_by(rules: Rules, s: &[u8]) -> Reading
             Parsed::Refused(cause, place) => return refuse(cause, place),
         }
     }
+}
+
+// Reads a book of a dialect whose steps and bytes are no more than a book's tables have room for. The length is tested first.
+fn read_by(rules: Rules, s: &[u8]) -> Reading
+    requires { ⌜ Fitting rules ⌝ }
+    ensures { λ r. ⌜ ReadAs (read-by rules (now (s .entry))) r ⌝ }
+{
+    if s.len() > rules.length_limit as usize {
+        return refuse(Cause::BookTooLong, 0);
+    }
+    read_commands(rules, s)
 }
 
 // The book of these tables, with the counts of the progress.

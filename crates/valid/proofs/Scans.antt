@@ -1,5 +1,6 @@
--- The loops over a table: largest, sum, how often, counts beside lengths, and runs taken back beside withdrawn ones and counts.
-use Prim.Native.Nat.{ℕ, _+_, _*_, _≤_, _<_}
+-- The loops over a table: largest, how many at a limit or above it, sum, how often, counts beside lengths, and runs taken back beside withdrawn ones and
+-- counts.
+use Prim.Native.Nat.{ℕ, _+_, _*_, _/_, _≤_, _<_}
 use mathlib.Core.Path.{_≡_, refl, sym, _∙_}
 use mathlib.Core.List.{List}
 use mathlib.Core.Bool.{true, false}
@@ -7,6 +8,8 @@ use native.Mathlib.Omega.{arith}
 use native.Mathlib.Numerals.{add-one}
 use native.Mathlib.Decide.{decLe}
 use borrow.Author.Count.{below-more}
+use mir.Syntax.{w64}
+use mir.Val.{Fits}
 use lib.ListN.{List·getD-eq-default, length, getD, take}
 use lib.Seq.{take-all}
 use Rattle.theory.specs.Lists.{sum}
@@ -15,10 +18,11 @@ use Rattle.theory.specs.Answers.{Answers}
 use Rattle.theory.proofs.Lists.{sum-take, count-take-lt, count-take-ne, getD-inside}
 use Rattle.theory.proofs.Answered.{answer-yes, answer-no}
 use Rattle.book.specs.Format.{run-limit}
-use Rattle.valid.specs.Removed.{Removed}
-use Rattle.valid.specs.inner.Tables.{Largest, CountsValid}
+use Rattle.book.specs.Book.{code-limit}
+use Rattle.valid.specs.TakenBack.{TakenBackAgree}
+use Rattle.valid.specs.inner.Tables.{Largest, Counted, CountsValid}
 
--- ---- largest, largest_code
+-- ---- largest
 
 -- m is the largest of those from `start` to i
 pub record LargestTo (l : List ℕ) (start i m : ℕ) : Type 0 where
@@ -46,6 +50,46 @@ module _ (l : List ℕ) (start : ℕ) where
       go : (k : ℕ) → start ≤ k → Dec (length l ≤ k) → getD l k 0 ≤ m
       go k g (yes a) = omega (arith, List·getD-eq-default l 0 a)
       go k g (no a) = t .above k (omega arith) g
+
+-- ---- others_in, set_from
+
+-- n, at most i, is 0 exactly where each from `start` to i is below the limit
+pub record CountedTo (l : List ℕ) (limit start i n : ℕ) : Type 0 where
+  pub begun : start ≤ i
+  pub low : n ≤ i
+  pub all : n ≡ 0 → (k : ℕ) → k < i → start ≤ k → getD l k 0 < limit
+  pub none : ((k : ℕ) → start ≤ k → getD l k 0 < limit) → n ≡ 0
+
+module _ (l : List ℕ) (limit start : ℕ) where
+  pub counted-none : CountedTo l limit start start 0
+  counted-none = record { begun = omega arith; low = omega arith; all = λ e k h g. absurd (omega arith); none = λ f. refl }
+
+  pub counted-same : (i n y : ℕ) → CountedTo l limit start i n → getD l i 0 < limit → y ≡ n → CountedTo l limit start (i + 1) y
+  counted-same i n y t h e = rw e (record { begun = omega (arith, t .begun); low = omega (arith, t .low); all = λ z. below-more _ i (t .all z) (λ g. h); none = t .none })
+
+  pub counted-new : (i n y : ℕ) → CountedTo l limit start i n → limit ≤ getD l i 0 → y ≡ n + 1 → CountedTo l limit start (i + 1) y
+  counted-new i n y t h e = rw e (record {
+    begun = omega (arith, t .begun);
+    low = omega (arith, t .low);
+    all = λ z. absurd (omega arith);
+    none = λ f. absurd (omega (arith, f i (t .begun)));
+  })
+
+  pub counted-all : (i n : ℕ) → CountedTo l limit start i n → length l ≤ i → 0 < limit → Counted l limit start n
+  counted-all i n t h p = record { all = λ z k g. go z k g (decLe (length l) k); none = t .none }
+    where
+      go : n ≡ 0 → (k : ℕ) → start ≤ k → Dec (length l ≤ k) → getD l k 0 < limit
+      go z k g (yes a) = omega (arith, List·getD-eq-default l 0 a)
+      go z k g (no a) = t .all z k (omega arith) g
+
+-- a quotient that is lifted has itself a quotient of 1 where it is of no code of a step, else of 0
+pub counted-lifted : (l : List ℕ) (i n : ℕ) → CountedTo l code-limit 0 i n → Fits w64 (getD l i 0)
+    → CountedTo l code-limit 0 (i + 1) (n + (getD l i 0 / 1048576 + 17592184995839) / 17592186044416)
+counted-lifted l i n t f = go (decLe code-limit (getD l i 0))
+  where
+    go : Dec (code-limit ≤ getD l i 0) → CountedTo l code-limit 0 (i + 1) (n + (getD l i 0 / 1048576 + 17592184995839) / 17592186044416)
+    go (yes h) = counted-new l code-limit 0 i n _ t h (omega (arith, f))
+    go (no h) = counted-same l code-limit 0 i n _ t (omega arith) (omega arith)
 
 -- ---- sum_of
 
@@ -112,32 +156,32 @@ module _ (ls ns h : List ℕ) (k : ℕ) where
   pub counts-all : (r n : ℕ) → CountsValid ls ns h k r → n ≤ r → Answers (CountsValid ls ns h k n) true
   counts-all r n v l = answer-yes (record { counts = λ q g. v .counts q (omega arith); within = λ q g. v .within q (omega arith) })
 
--- ---- are_removed
+-- ---- taken_back_agree
 
 -- the runs below n are tested
-pub record RemovedTo (back out counts : List ℕ) (n : ℕ) : Type 0 where
-  pub withdrawn : (r : ℕ) → r < n → ¬ (getD back r 0 ≡ 0) → ¬ (getD out r 0 ≡ 0)
-  pub no-step : (r : ℕ) → r < n → ¬ (getD back r 0 ≡ 0) → getD counts r 0 ≡ 0
+pub record AgreeTo (taken shut counts : List ℕ) (n : ℕ) : Type 0 where
+  pub withdrawn : (r : ℕ) → r < n → ¬ (getD taken r 0 ≡ 0) → ¬ (getD shut r 0 ≡ 0)
+  pub none-kept : (r : ℕ) → r < n → ¬ (getD taken r 0 ≡ 0) → getD counts r 0 ≡ 0
 
-module _ (back out counts : List ℕ) where
-  pub removed-none : RemovedTo back out counts 0
-  removed-none = record { withdrawn = λ r l. absurd (omega arith); no-step = λ r l. absurd (omega arith) }
+module _ (taken shut counts : List ℕ) where
+  pub agree-none : AgreeTo taken shut counts 0
+  agree-none = record { withdrawn = λ r l. absurd (omega arith); none-kept = λ r l. absurd (omega arith) }
 
-  module _ (n : ℕ) (w : RemovedTo back out counts n) where
-    pub removed-more : ¬ (getD out n 0 ≡ 0) → getD counts n 0 ≡ 0 → RemovedTo back out counts (n + 1)
-    removed-more f z = record { withdrawn = below-more _ n (w .withdrawn) (λ t. f); no-step = below-more _ n (w .no-step) (λ t. z) }
+  module _ (n : ℕ) (w : AgreeTo taken shut counts n) where
+    pub agree-more : ¬ (getD shut n 0 ≡ 0) → getD counts n 0 ≡ 0 → AgreeTo taken shut counts (n + 1)
+    agree-more f z = record { withdrawn = below-more _ n (w .withdrawn) (λ t. f); none-kept = below-more _ n (w .none-kept) (λ t. z) }
 
-    pub not-taken-back : getD back n 0 ≡ 0 → RemovedTo back out counts (n + 1)
-    not-taken-back z = record { withdrawn = below-more _ n (w .withdrawn) (λ t. absurd (t z)); no-step = below-more _ n (w .no-step) (λ t. absurd (t z)) }
+    pub not-taken-back : getD taken n 0 ≡ 0 → AgreeTo taken shut counts (n + 1)
+    not-taken-back z = record { withdrawn = below-more _ n (w .withdrawn) (λ t. absurd (t z)); none-kept = below-more _ n (w .none-kept) (λ t. absurd (t z)) }
 
-    pub removed-all : length back ≡ run-limit → run-limit ≤ n → Answers (Removed back out counts) true
-    removed-all e l = answer-yes (record { withdrawn = λ r t. w .withdrawn r (inside r t) t; no-step = λ r t. w .no-step r (inside r t) t })
+    pub agree-all : length taken ≡ run-limit → run-limit ≤ n → Answers (TakenBackAgree taken shut counts) true
+    agree-all e l = answer-yes (record { withdrawn = λ r t. w .withdrawn r (inside r t) t; none-kept = λ r t. w .none-kept r (inside r t) t })
       where
-        inside : (r : ℕ) → ¬ (getD back r 0 ≡ 0) → r < n
-        inside r t = omega (arith, getD-inside back r (omega (arith, t)))
+        inside : (r : ℕ) → ¬ (getD taken r 0 ≡ 0) → r < n
+        inside r t = omega (arith, getD-inside taken r (omega (arith, t)))
 
-    pub not-withdrawn : ¬ (getD back n 0 ≡ 0) → getD out n 0 ≡ 0 → Answers (Removed back out counts) false
+    pub not-withdrawn : ¬ (getD taken n 0 ≡ 0) → getD shut n 0 ≡ 0 → Answers (TakenBackAgree taken shut counts) false
     not-withdrawn t z = answer-no (λ v. v .withdrawn n t z)
 
-    pub step-kept-of-it : ¬ (getD back n 0 ≡ 0) → ¬ (getD counts n 0 ≡ 0) → Answers (Removed back out counts) false
-    step-kept-of-it t f = answer-no (λ v. f (v .no-step n t))
+    pub step-kept-of-it : ¬ (getD taken n 0 ≡ 0) → ¬ (getD counts n 0 ≡ 0) → Answers (TakenBackAgree taken shut counts) false
+    step-kept-of-it t f = answer-no (λ v. f (v .none-kept n t))

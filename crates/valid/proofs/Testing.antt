@@ -17,7 +17,7 @@ use Rattle.book.specs.Format.{run-limit, run-step-limit, step-limit}
 use Rattle.book.specs.Book.{pairs-size, cuts-size, code-limit, Flags, Column, RunsValid, Valid}
 use Rattle.book.specs.declared.Book.{Book}
 use Rattle.book.proofs.Books.{done-within}
-use Rattle.valid.specs.inner.Tables.{Largest, CountsValid, HistoryWithin}
+use Rattle.valid.specs.inner.Tables.{Largest, Counted, CountsValid, HistoryWithin}
 
 -- ---- tests of numbers
 
@@ -44,6 +44,13 @@ column-answer l limit end a b g k = answer-same
     (λ h. record { long = refl; small = λ i. omega (arith, g .above i zero-le, h .0); blank = λ i e. omega (arith, k .above i e, h .1) })
     (λ c. (omega (arith, g .least (limit - 1) (λ i h. omega (arith, c .small i)), c .small 0), omega (arith, k .least 0 (λ i e. omega (arith, c .blank i e)))))
     (answer-both _ _ (lt-answers a limit) (λ h. eq-answers b 0))
+
+-- codes, by how many are not
+pub codes-answer : (l : List ℕ) (limit end a b : ℕ) → Counted l limit 0 a → Counted l 1 end b → Answers (Column (length l) limit end l) (eqb a 0 && eqb b 0)
+codes-answer l limit end a b g k = answer-same
+    (λ h. record { long = refl; small = λ i. g .all (h .0) i zero-le; blank = λ i e. omega (arith, k .all (h .1) i e) })
+    (λ c. (g .none (λ i h. c .small i), k .none (λ i e. omega (arith, c .blank i e))))
+    (answer-both _ _ (eq-answers a 0) (λ h. eq-answers b 0))
 
 -- ---- runs_valid
 

@@ -1,3 +1,4 @@
--- The contracts speak of `Valid` and `Flags` of crate book. Removed: the runs taken back at a gate, beside its other tables. inner is no part of the statement.
-pub mod Removed
+-- The contracts speak of `Valid` and `Flags` of crate book. TakenBack: the runs taken back at a gate, beside its other tables. inner is no part of
+-- the statement.
+pub mod TakenBack
 pub mod inner

@@ -8,8 +8,8 @@ ghost use Rattle.theory.specs.Lists.{sum};
 ghost use Rattle.theory.specs.History.{count};
 ghost use Rattle.book.specs.Format.{run-limit, step-limit};
 ghost use Rattle.book.specs.Book.{code-limit, Flags, Column, RunsValid, Valid};
-ghost use Rattle.valid.specs.Removed.{Removed};
-ghost use Rattle.valid.specs.inner.Tables.{Largest, CountsValid, HistoryWithin};
+ghost use Rattle.valid.specs.TakenBack.{TakenBackAgree};
+ghost use Rattle.valid.specs.inner.Tables.{Largest, Counted, CountsValid, HistoryWithin};
 
 // The largest of the bytes from `start` on; 0 where there are none.
 fn largest(s: &[u8], start: usize) -> u8
@@ -27,20 +27,38 @@ fn largest(s: &[u8], start: usize) -> u8
     m
 }
 
-// The largest of the codes from `start` on; 0 where there are none.
-fn largest_code(s: &[u64], start: usize) -> u64
-    ensures { λ r. ⌜ Largest (now (s .entry)) start r ⌝ }
+// Numbers of 64 bits have so many quotients by Book::TOUCHES.
+const QUOTIENTS: u64 = 17592186044416;
+
+// Where this is added, the quotient reaches QUOTIENTS of each number that is no code of a step, and of no other.
+const LIFT: u64 = QUOTIENTS - 1 - Book::TOUCHES;
+
+// How many are no codes of steps, without a comparison: the vectors of x86-64 have none of 64 bits.
+fn others_in(s: &[u64]) -> u64
+    ensures { λ r. ⌜ Counted (now (s .entry)) code-limit 0 r ⌝ }
 {
-    let mut m: u64 = 0;
+    let mut n: u64 = 0;
+    let mut i = 0;
+    while i < s.len() {
+        n += (s[i] / Book::TOUCHES + LIFT) / QUOTIENTS;
+        i += 1;
+    }
+    n
+}
+
+// How many from `start` on are not 0.
+fn set_from(s: &[u64], start: usize) -> u64
+    ensures { λ r. ⌜ Counted (now (s .entry)) 1 start r ⌝ }
+{
+    let mut n: u64 = 0;
     let mut i = start;
     while i < s.len() {
-        let x = s[i];
-        if m < x {
-            m = x;
+        if 1 <= s[i] {
+            n += 1;
         }
         i += 1;
     }
-    m
+    n
 }
 
 // Whether each is 0 or 1.
@@ -68,7 +86,7 @@ fn is_column(s: &[u8], limit: u8, end: usize) -> bool
 fn are_codes(s: &[u64], end: usize) -> bool
     ensures { λ r. ⌜ Answers (Column (length (now (s .entry))) code-limit end (now (s .entry))) r ⌝ }
 {
-    (largest_code(s, 0) < (Book::TOUCHES + 1) * Book::TOUCHES) & (largest_code(s, end) == 0)
+    (others_in(s) == 0) & (set_from(s, end) == 0)
 }
 
 // The sum of a number for each run.
@@ -166,12 +184,12 @@ pub fn is_valid(b: Book) -> bool
 }
 
 // Whether each run taken back is withdrawn and has no step kept.
-pub fn are_removed(
+pub fn taken_back_agree(
     taken_back: [u8; Book::RUNS],
     withdrawn: [u8; Book::RUNS],
     counts: [u8; Book::RUNS],
 ) -> bool
-    ensures { λ r. ⌜ Answers (Removed «taken_back» withdrawn counts) r ⌝ }
+    ensures { λ r. ⌜ Answers (TakenBackAgree «taken_back» withdrawn counts) r ⌝ }
 {
     let mut r: usize = 0;
     while r < Book::RUNS {

@@ -1,12 +1,13 @@
--- The bytes of each group, piece by piece, as its loop puts them: an index of a table of flags, an element of a table, or a run at a time.
+-- The bytes of each group, piece by piece, as its loop puts them: an index or a block of a table of flags, an element of a table, or a run at a time.
 use mathlib.Core.Path.{_≡_, refl, ap, ap₂, _∙_}
-use mathlib.Core.List.{List, [], _∷_, _++_, map, append-nil}
+use mathlib.Core.List.{List, [], _∷_, _++_, map, append-nil, append-assoc}
 use mathlib.Core.Bool.{Bool, true, false}
-use Prim.Native.Nat.{ℕ, zero, suc, _+_, _-_, _≤_, _<_}
+use Prim.Native.Nat.{ℕ, zero, suc, _+_, _-_, _*_, _≤_, _<_}
 use native.Mathlib.Decide.{decLe}
 use native.Mathlib.Omega.{arith}
+use borrow.Author.Count.{below-more}
 use borrow.Author.Tests.{eq-eqb, ne-eqb}
-use lib.ListN.{length, getD, take, drop, length-take, List·getD-eq-default}
+use lib.ListN.{length, getD, take, drop, length-take, length-drop, List·getD-eq-default}
 use lib.Seq.{take-suc, length-take-le, getD-take, getD-drop}
 use lib.Dec.{eqb}
 use Rattle.buffer.specs.Put.{Put}
@@ -25,7 +26,7 @@ use Rattle.book.specs.declared.Step.{Step as StepValue}
 use Rattle.book.specs.declared.Step.the-variants.{Single, Transfer}
 use Rattle.book.proofs.Groups.{runs-snoc}
 use Rattle.book.proofs.RenderLaws.{run-commands-append}
-use Rattle.writer.specs.inner.Groups.{bytes-of, flag-bytes, pair-commands, cut-commands, step-commands, runs-divided, Codes, RunsHeld}
+use Rattle.writer.specs.inner.Groups.{bytes-of, flag-bytes, pair-commands, cut-commands, cut-commands-from, step-commands, runs-divided, NoneAbove, Codes, RunsHeld}
 
 -- the first i of n pieces are put, and there is room for all
 abbrev pub PuttingAll : List ℕ → (ℕ → List ℕ) → ℕ → List ℕ → List ℕ → ℕ → ℕ → Type 0
@@ -75,14 +76,73 @@ module _ (f : ℕ → Command) where
 abbrev pub pair-piece : List ℕ → ℕ → List ℕ
 pair-piece = flag-piece (λ i. pair (pair-of i))
 
-abbrev pub cut-piece : List ℕ → ℕ → List ℕ
-cut-piece = flag-piece (λ i. cut (cut-of i))
-
 pub pair-pieces : (ps : List ℕ) → bytes-of (pair-commands ps) ≡ parts (pair-piece ps) (length ps)
 pair-pieces ps = commands-each pair pair-of (flagged 0 ps) ∙ flagged-pieces (λ i. pair (pair-of i)) ps
 
-pub cut-pieces : (cs : List ℕ) → bytes-of (cut-commands cs) ≡ parts (cut-piece cs) (length cs)
-cut-pieces cs = commands-each cut cut-of (flagged 0 cs) ∙ flagged-pieces (λ i. cut (cut-of i)) cs
+-- ---- cuts, of which the first flag is at index first of the table
+
+abbrev pub cut-piece : ℕ → List ℕ → ℕ → List ℕ
+cut-piece first cs k = flag-bytes (getD cs k 0) (cut (cut-of (first + k)))
+
+pub cut-pieces : (first : ℕ) (cs : List ℕ) → bytes-of (cut-commands-from first cs) ≡ parts (cut-piece first cs) (length cs)
+cut-pieces first cs = commands-each cut cut-of (flagged first cs) ∙ flagged-from (λ i. cut (cut-of i)) cs first
+
+-- where no flag is set
+parts-empty : (f : ℕ → List ℕ) (n : ℕ) → ((k : ℕ) → f k ≡ []) → parts f n ≡ []
+parts-empty f zero e = refl
+parts-empty f (suc n) e = rw (parts-empty f n e, e n)
+
+pub none-put : (first : ℕ) (cs l : List ℕ) (m : ℕ) → NoneAbove cs m → m ≡ 0 → Put (bytes-of (cut-commands-from first cs)) l l 0
+unfolding flag-bytes
+none-put first cs l m z e =
+    rw (cut-pieces first cs, parts-empty (cut-piece first cs) (length cs) (λ k. rw (eq-eqb (getD cs k 0) 0 (omega (arith, z .above k))))) (none l)
+
+-- the loop over the flags: none of the first i is above m
+pub record NoneAboveTo (xs : List ℕ) (i m : ℕ) : Type 0 where
+  pub above : (k : ℕ) → k < i → getD xs k 0 ≤ m
+
+module _ (xs : List ℕ) where
+  pub above-none : NoneAboveTo xs 0 0
+  above-none = record { above = λ k h. absurd (omega arith) }
+
+  pub above-same : (i m y : ℕ) → NoneAboveTo xs i m → getD xs i 0 ≤ m → y ≡ m → NoneAboveTo xs (i + 1) y
+  above-same i m y t h e = rw e (record { above = below-more _ i (t .above) h })
+
+  pub above-new : (i m y : ℕ) → NoneAboveTo xs i m → m < getD xs i 0 → y ≡ getD xs i 0 → NoneAboveTo xs (i + 1) y
+  above-new i m y t h e = rw e (record { above = below-more _ i (λ k l. omega (arith, t .above k l)) (omega arith) })
+
+  pub above-all : (i m : ℕ) → NoneAboveTo xs i m → length xs ≤ i → NoneAbove xs m
+  above-all i m t h = record { above = λ k. go k (decLe (length xs) k) }
+    where
+      go : (k : ℕ) → Dec (length xs ≤ k) → getD xs k 0 ≤ m
+      go k (yes a) = omega (arith, List·getD-eq-default xs 0 a)
+      go k (no a) = t .above k (omega arith)
+
+-- block k of a table in blocks of w flags
+abbrev pub block : ℕ → List ℕ → ℕ → List ℕ
+block w cs k = take w (drop (k * w) cs)
+
+abbrev pub block-piece : ℕ → List ℕ → ℕ → List ℕ
+block-piece w cs k = bytes-of (cut-commands-from (k * w) (block w cs k))
+
+parts-append : (f : ℕ → List ℕ) (a b : ℕ) → parts f (a + b) ≡ parts f a ++ parts (λ k. f (a + k)) b
+parts-append f a zero = let e : a + 0 ≡ a = omega arith in rw (e, append-nil)
+parts-append f a (suc b) = let e : a + suc b ≡ suc (a + b) = omega arith in rw (e, parts-append f a b, append-assoc)
+
+block-pieces : (w : ℕ) (cs : List ℕ) (n : ℕ) → n * w ≤ length cs → parts (cut-piece 0 cs) (n * w) ≡ parts (block-piece w cs) n
+block-pieces w cs zero h = let e : 0 * w ≡ 0 = omega arith in rw e
+block-pieces w cs (suc n) h =
+    let e : suc n * w ≡ n * w + w = omega arith in
+    let long : length (block w cs n) ≡ w = length-take-le w (drop (n * w) cs) (omega (arith, length-drop (n * w) cs)) in
+    rw (e, parts-append (cut-piece 0 cs) (n * w) w, block-pieces w cs n (omega arith), cut-pieces (n * w) (block w cs n), long)
+    (ap (λ (l : List ℕ). parts (block-piece w cs) n ++ l) (parts-equal _ _ w (λ k g. rw (getD-take w (drop (n * w) cs) k 0 g, getD-drop (n * w) cs k 0) (ap (λ (j : ℕ). flag-bytes (getD cs (n * w + k) 0) (cut (cut-of j))) (omega arith)))))
+
+pub cut-blocks : (w : ℕ) (cs : List ℕ) (n : ℕ) → length cs ≡ n * w → bytes-of (cut-commands cs) ≡ parts (block-piece w cs) n
+cut-blocks w cs n e = cut-pieces 0 cs ∙ rw e (block-pieces w cs n (omega arith))
+
+-- block k is w flags from k * w on
+pub block-is : (w : ℕ) (cs : List ℕ) (k : ℕ) → take (k * w + w - k * w) (drop (k * w) cs) ≡ block w cs k
+block-is w cs k = let z : k * w + w - k * w ≡ w = omega arith in rw z
 
 -- ---- steps and done steps
 

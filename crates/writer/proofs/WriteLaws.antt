@@ -86,7 +86,7 @@ module _ (s out : List ℕ) (r : Reading) (h : ReadAs (read s) r) where
               codes = record { small = v .runs .steps .small };
               steps = omega (arith, v .runs .total, v .runs .few-steps, v .runs .steps .long);
             };
-            cuts = omega (arith, v .cuts .long);
+            cuts = v .cuts .long;
             history = omega (arith, done-within b v, v .history .history .long);
             room = omega (
               arith,

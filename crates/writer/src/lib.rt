@@ -5,8 +5,9 @@ use book::Book;
 use book::Cause;
 use book::Step;
 use book::Touch;
+ghost use mathlib.Core.Path.{_≡_};
 ghost use mathlib.Core.List.{[], _∷_, map};
-ghost use Prim.Native.Nat.{_<_, _≤_};
+ghost use Prim.Native.Nat.{_+_, _<_, _≤_};
 ghost use lib.ListN.{length, take};
 ghost use Rattle.buffer.specs.Put.{Put};
 ghost use Rattle.theory.specs.Deck.{single, transfer};
@@ -14,7 +15,7 @@ ghost use Rattle.book.specs.Format.{pair, run, cut, done, step-bytes};
 ghost use Rattle.book.specs.Render.{run-commands, render};
 ghost use Rattle.book.specs.Book.{pairs-size, cuts-size, pair-of, cut-of, as-touch, as-step};
 ghost use Rattle.writer.specs.Written.{Wrote};
-ghost use Rattle.writer.specs.inner.Groups.{bytes-of, flag-bytes, pair-commands, cut-commands, step-commands, runs-divided, Codes, RunsHeld, BookHeld, table-contents};
+ghost use Rattle.writer.specs.inner.Groups.{bytes-of, flag-bytes, pair-commands, cut-commands, cut-commands-from, step-commands, runs-divided, NoneAbove, Codes, RunsHeld, BookHeld, table-contents};
 
 // What the writer answers.
 pub enum Written {
@@ -23,6 +24,9 @@ pub enum Written {
     // The cause and the place, which is 0 where the buffer is short.
     Refused(Cause, usize),
 }
+
+// The table of cuts is put in blocks of so many flags. The compiler makes a loop over so many one over vectors, of 16 it does not.
+const BLOCK: usize = 8 * Book::RUNS;
 
 // 43 and the kinds of the pair at an index of the table, if its flag is set.
 fn put_pair(flag: u8, index: usize, out: &mut [u8]) -> usize
@@ -167,17 +171,61 @@ fn put_runs<'a>(declared: usize, lengths: &'a [u8], steps: &'a [u64], out: &mut 
     at
 }
 
-// The group of 42.
-fn put_cuts(cuts: &[u8], out: &mut [u8]) -> usize
-    requires { ⌜ (length (now cuts) ≤ cuts-size) × (length (bytes-of (cut-commands (now cuts))) ≤ length (now out)) ⌝ }
-    ensures { λ r. ⌜ Put (bytes-of (cut-commands (now (cuts .entry)))) (now (out .entry)) (now (out .exit)) r ⌝ }
+// The largest of these flags; 0 where there are none.
+fn largest(flags: &[u8]) -> u8
+    ensures { λ r. ⌜ NoneAbove (now (flags .entry)) r ⌝ }
+{
+    let mut m: u8 = 0;
+    let mut i: usize = 0;
+    while i < flags.len() {
+        let x = flags[i];
+        if m < x {
+            m = x;
+        }
+        i += 1;
+    }
+    m
+}
+
+// The cuts of these flags, of which the first is at index `first` of the table.
+fn put_flags(flags: &[u8], first: usize, out: &mut [u8]) -> usize
+    requires { ⌜ (first + length (now flags) ≤ cuts-size) × (length (bytes-of (cut-commands-from first (now flags))) ≤ length (now out)) ⌝ }
+    ensures { λ r. ⌜ Put (bytes-of (cut-commands-from first (now (flags .entry)))) (now (out .entry)) (now (out .exit)) r ⌝ }
 {
     let mut at: usize = 0;
     let mut i: usize = 0;
-    while i < cuts.len() {
-        let n = put_cut(cuts[i], i, &mut out[at..]);
+    while i < flags.len() {
+        let n = put_cut(flags[i], first + i, &mut out[at..]);
         at += n;
         i += 1;
+    }
+    at
+}
+
+// The same, without a look at each flag where none is set.
+fn put_block(flags: &[u8], first: usize, out: &mut [u8]) -> usize
+    requires { ⌜ (first + length (now flags) ≤ cuts-size) × (length (bytes-of (cut-commands-from first (now flags))) ≤ length (now out)) ⌝ }
+    ensures { λ r. ⌜ Put (bytes-of (cut-commands-from first (now (flags .entry)))) (now (out .entry)) (now (out .exit)) r ⌝ }
+{
+    if largest(flags) == 0 {
+        return 0;
+    }
+    put_flags(flags, first, out)
+}
+
+// The group of 42.
+fn put_cuts(cuts: &[u8], out: &mut [u8]) -> usize
+    requires { ⌜ (length (now cuts) ≡ cuts-size) × (length (bytes-of (cut-commands (now cuts))) ≤ length (now out)) ⌝ }
+    ensures { λ r. ⌜ Put (bytes-of (cut-commands (now (cuts .entry)))) (now (out .entry)) (now (out .exit)) r ⌝ }
+{
+    let blocks = cuts.len() / BLOCK;
+    let mut at: usize = 0;
+    let mut k: usize = 0;
+    while k < blocks {
+        let first = k * BLOCK;
+        let n = put_block(&cuts[first..first + BLOCK], first, &mut out[at..]);
+        at += n;
+        k += 1;
     }
     at
 }

@@ -7,10 +7,10 @@ use Rattle.book.proofs.leave_out.Statement.{statement}
 use Rattle.book.proofs.leave_out.Tie as tie
 
 abbrev Inv-loop : tie.InvT-loop
-Inv-loop b out done counts₀ history₀ n₀ i₀ counts history n i = LeftOut b out counts history n i
+Inv-loop b flags done counts₀ history₀ n₀ i₀ counts history n i = LeftOut b flags counts history n i
 
 abbrev μ-loop : tie.MeasureT-loop
-μ-loop b out done counts₀ history₀ n₀ i₀ counts history n i = b .done - i
+μ-loop b flags done counts₀ history₀ n₀ i₀ counts history n i = b .done - i
 
 loop-holds : tie.Need-loop-holds Inv-loop μ-loop
 loop-holds c = search none-left-out

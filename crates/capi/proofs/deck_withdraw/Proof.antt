@@ -2,7 +2,7 @@
 use contract.Running.{givenOf, tables, tablesOf}
 use denote.Triple.Spec.{tripleOf}
 use denote.Triple.Table.{entered, cited}
-use Rattle.gate.specs.Plain.{withdraw as the-call}
+use Rattle.plain.specs.Plain.{withdraw as the-call}
 use Rattle.gate.proofs.Lent.{Lent}
 use Rattle.gate.proofs.withdraw.Symbol as lent-def
 use Rattle.gate.proofs.withdraw.Symbol.{name as #gate·withdraw}

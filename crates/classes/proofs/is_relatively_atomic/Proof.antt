@@ -1,7 +1,7 @@
 -- The table of first places is that of the book's units.
 use borrow.Author.Needs.{needs}
-use Rattle.graph.proofs.BookTables.{book-history}
-use Rattle.classes.proofs.BookLaws.{book-firsts, book-atomic}
+use Rattle.dependence.proofs.BookTables.{book-history}
+use Rattle.classes.proofs.BookLaws.{book-firsts, book-lasts, book-atomic}
 use Rattle.classes.proofs.is_relatively_atomic.Statement.{statement}
 use Rattle.classes.proofs.is_relatively_atomic.Tie as tie
 
@@ -9,7 +9,7 @@ units-requires : tie.Need-units-requires
 units-requires c κs = search needs
 
 atomic-by-requires : tie.Need-atomic-by-requires
-atomic-by-requires c κs = (search book-history, search book-firsts)
+atomic-by-requires c κs = (search book-history, search (book-firsts, book-lasts))
 
 returns : tie.Need-returns
 returns c = search book-atomic

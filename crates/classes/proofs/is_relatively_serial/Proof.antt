@@ -1,6 +1,6 @@
 -- The tables are those of the book's dependences and units.
 use borrow.Author.Needs.{needs}
-use Rattle.graph.proofs.BookTables.{book-history}
+use Rattle.dependence.proofs.BookTables.{book-history}
 use Rattle.classes.proofs.BookLaws.{book-firsts, book-lasts, book-relatively-serial}
 use Rattle.classes.proofs.is_relatively_serial.Statement.{statement}
 use Rattle.classes.proofs.is_relatively_serial.Tie as tie

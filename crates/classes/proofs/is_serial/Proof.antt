@@ -1,5 +1,5 @@
 -- The book's history is the first `done` numbers of its array.
-use Rattle.graph.proofs.BookTables.{book-history}
+use Rattle.dependence.proofs.BookTables.{book-history}
 use Rattle.classes.proofs.BookLaws.{book-serial}
 use Rattle.classes.proofs.is_serial.Statement.{statement}
 use Rattle.classes.proofs.is_serial.Tie as tie

@@ -3,9 +3,9 @@ use Prim.Native.Nat.{_-_}
 use native.Mathlib.Omega.{arith}
 use borrow.Author.Needs.{needs}
 use Rattle.theory.proofs.Answered.{answer-yes, answer-no, refute}
-use Rattle.judge.specs.inner.Turns.{NoneBelow}
+use Rattle.turns.specs.inner.Turns.{NoneBelow}
 use Rattle.classes.specs.inner.Tables.{InterleavedIn}
-use Rattle.judge.proofs.ReadyPlaces.{none-yet, none-more}
+use Rattle.turns.proofs.ReadyPlaces.{none-yet, none-more}
 use Rattle.classes.proofs.none_interleaved.Statement.{statement}
 use Rattle.classes.proofs.none_interleaved.Tie as tie
 

@@ -9,7 +9,7 @@ use Rattle.theory.specs.Relative.{Depends, RelativelyAtomic, RelativelySerial}
 use Rattle.bits.specs.Table.{bit-at}
 use Rattle.book.specs.Format.{run-limit}
 use Rattle.theory.specs.Answers.{Answers}
-use Rattle.graph.specs.Marks.{Marks}
+use Rattle.dependence.specs.Marks.{Marks}
 use Rattle.graph.specs.Units.{Firsts, Lasts}
 
 -- b, of another run than c, comes after the first step of c's unit, as seen by b's run: theory's `Interleaved`, read off the table

@@ -2,7 +2,7 @@
 use contract.Running.{givenOf, tables, tablesOf}
 use denote.Triple.Spec.{tripleOf}
 use denote.Triple.Table.{entered, cited}
-use Rattle.gate.specs.Plain.{step as the-call}
+use Rattle.plain.specs.Plain.{step as the-call}
 use Rattle.capi.proofs.Live.{LiveCall}
 use Rattle.capi.proofs.deck_step.Symbol as live-def
 use Rattle.capi.proofs.deck_step.Symbol.{name as #capi·deck-step}

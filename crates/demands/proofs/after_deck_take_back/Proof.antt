@@ -2,7 +2,7 @@
 use contract.Running.{givenOf, tables, tablesOf}
 use denote.Triple.Spec.{tripleOf}
 use denote.Triple.Table.{entered, cited}
-use Rattle.gate.specs.Plain.{take-back as the-call}
+use Rattle.plain.specs.Plain.{take-back as the-call}
 use Rattle.capi.proofs.Live.{LiveCall}
 use Rattle.capi.proofs.deck_take_back.Symbol as live-def
 use Rattle.capi.proofs.deck_take_back.Symbol.{name as #capi·deck-take-back}

@@ -11,7 +11,7 @@ after-deck-take-back-requires c κs = search needs
 returns : tie.Need-returns
 returns c =
     let p = c .after-deck-take-back .ensures in
-    record { refusals = demand-1 .deck-call _ _ _ _ p; removed = λ y d n. take-backs .deck-answered-so _ _ _ _ y d n p }
+    record { refusals = demand-1 .deck-call _ _ _ _ p; run-taken-back = λ y d n. take-backs .deck-answered-so _ _ _ _ y d n p }
 
 pub run-taken-back-spec : {M : Type 1} → statement M
 run-taken-back-spec = tie.close (tie.spec after-deck-take-back-requires returns)

@@ -1,6 +1,7 @@
 -- The tables are those of the book's contents, so the cycle that `cycle_by` tells is one of its graph.
-use Rattle.graph.proofs.DependenceRows.{blank-zeros}
-use Rattle.graph.proofs.BookTables.{book-history, book-some-tables}
+use Rattle.dependence.proofs.DependenceRows.{blank-zeros}
+use Rattle.dependence.proofs.BookTables.{book-history}
+use Rattle.graph.proofs.BookTables.{book-some-tables}
 use Rattle.evidence.proofs.BookLaws.{book-cycle}
 use borrow.Author.Needs.{needs}
 use Rattle.evidence.proofs.is_cycle.Statement.{statement}

@@ -1,6 +1,6 @@
 -- Where l is an order that agrees, the book may have it as its history, and its test for relatively serial is that of l.
 use borrow.Author.Needs.{needs}
-use Rattle.graph.proofs.BookTables.{book-history}
+use Rattle.dependence.proofs.BookTables.{book-history}
 use Rattle.evidence.proofs.BookLaws.{not-equivalent, order-allowed, order-answer}
 use Rattle.evidence.proofs.is_relatively_serial_order.Statement.{statement}
 use Rattle.evidence.proofs.is_relatively_serial_order.Tie as tie

@@ -1,6 +1,7 @@
 -- The tables are those of the book's contents, so the names read off them are those of its graph.
-use Rattle.graph.proofs.DependenceRows.{blank-zeros}
-use Rattle.graph.proofs.BookTables.{book-history, book-some-tables}
+use Rattle.dependence.proofs.DependenceRows.{blank-zeros}
+use Rattle.dependence.proofs.BookTables.{book-history}
+use Rattle.graph.proofs.BookTables.{book-some-tables}
 use Rattle.evidence.proofs.BookLaws.{book-names}
 use borrow.Author.Needs.{needs}
 use Rattle.evidence.proofs.names_of.Statement.{statement}

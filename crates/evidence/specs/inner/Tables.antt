@@ -11,7 +11,7 @@ use Rattle.bits.specs.Table.{bit-at}
 use Rattle.bits.specs.declared.Found.{Found}
 use Rattle.bits.specs.declared.Found.the-variants.{At, Nothing}
 use Rattle.theory.specs.Answers.{Answers}
-use Rattle.graph.specs.Marks.{Marks}
+use Rattle.dependence.specs.Marks.{Marks}
 use Rattle.graph.specs.inner.Arcs.{TablesOf}
 use Rattle.names.specs.declared.ArcNames.{ArcNames}
 

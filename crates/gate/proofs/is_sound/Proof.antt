@@ -10,8 +10,8 @@ are-flags-requires c κs = search needs
 are-flags-requires-2 : tie.Need-are-flags-requires-2
 are-flags-requires-2 c κs = search needs
 
-are-removed-requires : tie.Need-are-removed-requires
-are-removed-requires c κs = search needs
+taken-back-agree-requires : tie.Need-taken-back-agree-requires
+taken-back-agree-requires c κs = search needs
 
 is-valid-requires : tie.Need-is-valid-requires
 is-valid-requires c κs = search needs
@@ -28,7 +28,7 @@ is-sound-spec =
     (tie.spec
     are-flags-requires
     are-flags-requires-2
-    are-removed-requires
+    taken-back-agree-requires
     is-valid-requires
     returns
     returns-2)

@@ -2,7 +2,7 @@
 use contract.Running.{givenOf, tables, tablesOf}
 use denote.Triple.Spec.{tripleOf}
 use denote.Triple.Table.{entered, cited}
-use Rattle.gate.specs.Plain.{take-back as the-call}
+use Rattle.plain.specs.Plain.{take-back as the-call}
 use Rattle.gate.proofs.Lent.{ByValue, meets}
 use Rattle.gate.proofs.take_back_value.Symbol as value-def
 use Rattle.gate.proofs.take_back_value.Symbol.{name as #gate·take-back-value}

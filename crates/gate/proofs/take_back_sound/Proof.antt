@@ -1,5 +1,5 @@
 -- `take_back_sound` is right: each of its ways out is a rule of the plain gate for a take-back.
-use Rattle.gate.proofs.Records.{take-back-undeclared, removal-low, take-back-again, take-back-done}
+use Rattle.gate.proofs.Records.{take-back-undeclared, take-back-low, take-back-again, take-back-done}
 use borrow.Author.Needs.{needs}
 use Rattle.gate.proofs.take_back_sound.Statement.{statement}
 use Rattle.gate.proofs.take_back_sound.Tie as tie
@@ -11,19 +11,19 @@ returns : tie.Need-returns
 returns c = search take-back-undeclared
 
 array-read-if2 : tie.Need-array-read-if2
-array-read-if2 c = search removal-low
+array-read-if2 c = search take-back-low
 
 returns-2 : tie.Need-returns-2
 returns-2 c = search take-back-again
 
-array-write-out : tie.Need-array-write-out
-array-write-out c = search removal-low
+array-write-left-out : tie.Need-array-write-left-out
+array-write-left-out c = search take-back-low
 
 array-write-withdrawn : tie.Need-array-write-withdrawn
-array-write-withdrawn c = search removal-low
+array-write-withdrawn c = search take-back-low
 
 array-write-taken-back : tie.Need-array-write-taken-back
-array-write-taken-back c = search removal-low
+array-write-taken-back c = search take-back-low
 
 leave-out-requires : tie.Need-leave-out-requires
 leave-out-requires c κs = search needs
@@ -39,7 +39,7 @@ take-back-sound-spec =
     returns
     array-read-if2
     returns-2
-    array-write-out
+    array-write-left-out
     array-write-withdrawn
     array-write-taken-back
     leave-out-requires

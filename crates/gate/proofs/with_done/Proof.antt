@@ -1,4 +1,4 @@
--- `with_step` is right: it is the reader's own addition of a done step, for which run r has room.
+-- `with_done` is right: it is the reader's own addition of a done step, for which run r has room.
 use Rattle.gate.proofs.Records.{step-run, step-place, step-count, step-fits, step-book}
 use borrow.Author.Needs.{needs}
 use Rattle.gate.proofs.with_done.Statement.{statement}

@@ -1,6 +1,6 @@
 -- The test is the definition.
 use mathlib.Core.Path.{sym}
-use Rattle.graph.proofs.Counting.{flag-none, flag-some}
+use Rattle.graph.proofs.UnitRows.{flag-none, flag-some}
 use Rattle.graph.proofs.by_flag.Statement.{statement}
 use Rattle.graph.proofs.by_flag.Tie as tie
 

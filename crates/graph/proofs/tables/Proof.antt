@@ -1,6 +1,7 @@
 -- The tables of dependences and units are those of the book's contents.
-use Rattle.graph.proofs.DependenceRows.{blank-zeros}
-use Rattle.graph.proofs.BookTables.{book-history, book-room, book-steps, book-run-rows, book-tables}
+use Rattle.dependence.proofs.DependenceRows.{blank-zeros}
+use Rattle.dependence.proofs.BookTables.{book-history, book-room, book-steps, book-run-rows}
+use Rattle.graph.proofs.BookTables.{book-tables}
 use borrow.Author.Needs.{needs}
 use Rattle.graph.proofs.tables.Statement.{statement}
 use Rattle.graph.proofs.tables.Tie as tie

@@ -1,5 +1,6 @@
 -- The flags of the cuts make the units of the book's contents.
-use Rattle.graph.proofs.BookTables.{book-history, book-counted, book-units}
+use Rattle.dependence.proofs.BookTables.{book-history}
+use Rattle.graph.proofs.BookTables.{book-counted, book-units}
 use borrow.Author.Needs.{needs}
 use Rattle.graph.proofs.units.Statement.{statement}
 use Rattle.graph.proofs.units.Tie as tie

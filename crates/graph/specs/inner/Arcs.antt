@@ -10,10 +10,9 @@ use Rattle.theory.specs.History.{run}
 use Rattle.theory.specs.Relative.{Depends}
 use Rattle.theory.specs.Graph.{FirstOf, LastOf, ArcI, ArcD, Arc}
 use Rattle.book.specs.Format.{run-limit}
-use Rattle.graph.specs.Marks.{Marks, Columns}
+use Rattle.dependence.specs.Marks.{Marks, Columns}
+use Rattle.dependence.specs.inner.Tables.{HistoryOf, InRun}
 use Rattle.graph.specs.Units.{Firsts, Lasts}
-use Rattle.graph.specs.Catalogue.{base, run-part}
-use Rattle.graph.specs.inner.Tables.{HistoryOf}
 
 -- u is t with the bits that H tells
 pub record Gained (H : ℕ → ℕ → Type 0) (t u : List ℕ) : Type 0 where
@@ -41,16 +40,6 @@ ArcOfPlaces conflict unit h r m = Below (ArcOf conflict unit h r) m
 -- the arcs that come of what the places below n depend on in the runs below m
 abbrev pub ArcOfRuns : (ℕ → ℕ → ℕ → ℕ → Bool) → (ℕ → ℕ → ℕ → ℕ) → List ℕ → ℕ → ℕ → ℕ → ℕ → Type 0
 ArcOfRuns conflict unit h n m = Below (λ r. Below (ArcOf conflict unit h r) n) m
-
--- p is one of the first m places, of run r
-pub record InRun (h : List ℕ) (m p r : ℕ) : Type 0 where
-  pub below : p < m
-  pub runs : run h p ≡ r
-
--- the rows of the run part are the places of each run
-pub record RunRows (h : List ℕ) (n : ℕ) (catalogue : List ℕ) : Type 0 where
-  pub sound : (p r : ℕ) → p < row-bits → r < run-limit → bit-at catalogue (run-part * base + r) p ≡ 1 → InRun h n p r
-  pub complete : (p r : ℕ) → p < row-bits → r < run-limit → InRun h n p r → bit-at catalogue (run-part * base + r) p ≡ 1
 
 -- the tables are those of h, with this conflict and these units
 pub record TablesBy (conflict : ℕ → ℕ → ℕ → ℕ → Bool) (unit : ℕ → ℕ → ℕ → ℕ) (h dep firsts lasts : List ℕ) : Type 0 where

@@ -1,68 +1,18 @@
--- What the tables inside `graph` hold.
+-- What the tables of units hold.
 use Prim.Native.Nat.{ℕ, zero, suc, _+_, _*_, _≤_, _<_}
 use mathlib.Core.Path.{_≡_}
 use mathlib.Core.Logic.{_≢_}
 use mathlib.Core.List.{List}
-use lib.ListN.{length, getD, take}
+use lib.ListN.{length, getD}
 use Rattle.book.specs.Format.{run-limit, run-step-limit, step-limit}
-use Rattle.book.specs.Book.{cuts-size, run-cuts, step-coded, as-step}
-use Rattle.book.specs.declared.Step.{Step as StepValue}
-use Rattle.theory.specs.Lists.{sum}
-use Rattle.theory.specs.History.{count, run, ordinal}
-use Rattle.theory.specs.Deck.{Step, step-of}
+use Rattle.book.specs.Book.{cuts-size, run-cuts}
+use Rattle.theory.specs.History.{count, ordinal}
 use Rattle.theory.specs.inner.Places.{place-of}
-use Rattle.graph.specs.Dependence.{KindsLow}
 use Rattle.graph.specs.Units.{EachPlace}
 
 -- the size of a table of a place for each step, by run and ordinal
 abbrev pub places-size : ℕ
 places-size = run-limit * run-step-limit
-
-pub record Small (m : ℕ) (l : List ℕ) : Type 0 where
-  pub small : (i : ℕ) → getD l i 0 < m
-
--- the first n of history are the run numbers of a history in which no run has more than run-step-limit steps
-pub record HistoryOf (history : List ℕ) (n : ℕ) : Type 0 where
-  pub long : length history ≡ step-limit
-  pub within : n ≤ step-limit
-  pub runs : Small run-limit history
-  pub few : (r : ℕ) → count (take n history) r ≤ run-step-limit
-
--- the runs of the first n places are below m
-pub record Declared (history : List ℕ) (n m : ℕ) : Type 0 where
-  pub few : m ≤ run-limit
-  pub declared : (p : ℕ) → p < n → getD history p 0 < m
-
--- r stands at index i of t, and is below m
-pub record NumberAt (t : List ℕ) (i m r : ℕ) : Type 0 where
-  pub is : r ≡ getD t i 0
-  pub small : r < m
-
--- ---- the steps of a history
-
--- run r's steps begin where the steps of the runs before it end
-pub record Starts (lengths starts : List ℕ) : Type 0 where
-  pub are : (r : ℕ) → r < run-limit → getD starts r 0 ≡ sum (take r lengths)
-
--- there is room for the steps of runs of these lengths, and no run has more done steps
-pub record RunsRoom (h lengths : List ℕ) : Type 0 where
-  pub total : sum lengths ≤ step-limit
-  pub within : (r : ℕ) → count h r ≤ getD lengths r 0
-
--- the step of a code in a table
-abbrev pub step-in : List ℕ → ℕ → Step
-step-in steps i = step-coded (getD steps i 0)
-
--- x is that step
-pub record StepAt (steps : List ℕ) (i : ℕ) (x : StepValue) : Type 0 where
-  pub is : as-step x ≡ step-in steps i
-  pub kinds : KindsLow (as-step x)
-
--- the steps of h are, in these runs, those that the table has of runs of these lengths, one behind the other
-pub record StepsOf (runs : List (List Step)) (h lengths steps : List ℕ) : Type 0 where
-  pub at : (p : ℕ) → p < length h → step-of runs (run h p) (ordinal h p) ≡ step-in steps (sum (take (run h p) lengths) + ordinal h p)
-
--- ---- units
 
 -- each place's ordinal, and each step's place
 pub record Numbering (h ordinals places : List ℕ) : Type 0 where

@@ -1,6 +1,7 @@
 -- The tables are those of the book's own conflict and unit.
-use Rattle.graph.proofs.DependenceRows.{blank-zeros}
-use Rattle.graph.proofs.BookTables.{book-history, book-declared, book-some-tables}
+use Rattle.dependence.proofs.DependenceRows.{blank-zeros}
+use Rattle.dependence.proofs.BookTables.{book-history, book-declared}
+use Rattle.graph.proofs.BookTables.{book-some-tables}
 use Rattle.judge.proofs.BookHistory.{book-judged, book-named}
 use borrow.Author.Needs.{needs}
 use Rattle.judge.proofs.judge_book.Statement.{statement}

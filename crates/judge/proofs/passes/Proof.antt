@@ -1,6 +1,7 @@
 -- The table marks the arcs of the book's own conflict and unit, and a history passes exactly where the turns take every place.
-use Rattle.graph.proofs.DependenceRows.{blank-zeros}
-use Rattle.graph.proofs.BookTables.{book-history, book-declared, book-some-tables}
+use Rattle.dependence.proofs.DependenceRows.{blank-zeros}
+use Rattle.dependence.proofs.BookTables.{book-history, book-declared}
+use Rattle.graph.proofs.BookTables.{book-some-tables}
 use Rattle.judge.proofs.BookHistory.{book-passes}
 use borrow.Author.Needs.{needs}
 use Rattle.judge.proofs.passes.Statement.{statement}

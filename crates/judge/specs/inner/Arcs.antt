@@ -4,7 +4,7 @@ use mathlib.Core.Bool.{Bool}
 use mathlib.Core.List.{List}
 use Rattle.theory.specs.Relative.{Lawful}
 use Rattle.theory.specs.Graph.{Arc}
-use Rattle.graph.specs.Marks.{Marks}
+use Rattle.dependence.specs.Marks.{Marks}
 use Rattle.graph.specs.inner.Arcs.{TablesOf}
 use Rattle.judge.specs.Judged.{JudgedAs}
 use Rattle.judge.specs.inner.Names.{CycleCounted}

@@ -12,6 +12,11 @@ pub record Largest (l : List ℕ) (start m : ℕ) : Type 0 where
   pub above : (i : ℕ) → start ≤ i → getD l i 0 ≤ m
   pub least : (n : ℕ) → ((i : ℕ) → start ≤ i → getD l i 0 ≤ n) → m ≤ n
 
+-- n is 0 exactly where each element from `start` on is below the limit
+pub record Counted (l : List ℕ) (limit start n : ℕ) : Type 0 where
+  pub all : n ≡ 0 → (i : ℕ) → start ≤ i → getD l i 0 < limit
+  pub none : ((i : ℕ) → start ≤ i → getD l i 0 < limit) → n ≡ 0
+
 -- of the runs below n, the counts are those of the first k of h, and not above the lengths
 pub record CountsValid (ls ns h : List ℕ) (k n : ℕ) : Type 0 where
   pub counts : (r : ℕ) → r < n → getD ns r 0 ≡ count (take k h) r

@@ -1,47 +1,71 @@
--- The loop puts the bytes of each index of the table in turn.
-use Prim.Native.Nat.{_-_}
+-- The loop puts the bytes of each block of the table in turn.
+use Prim.Native.Nat.{_-_, _*_, _/_}
 use native.Mathlib.Nat.{le-refl}
 use native.Mathlib.Omega.{arith}
 use borrow.Author.Needs.{needs}
-use lib.ListN.{length}
+use lib.ListN.{length, drop, length-take}
 use Rattle.buffer.proofs.InTurn.{putting-exact, putting-left, putting-next, putting-all}
 use Rattle.writer.specs.inner.Groups.{bytes-of, cut-commands}
-use Rattle.writer.proofs.GroupLaws.{PuttingAll, cut-piece, cut-pieces}
+use Rattle.writer.proofs.GroupLaws.{PuttingAll, block-piece, cut-blocks, block-is}
 use Rattle.writer.proofs.put_cuts.Statement.{statement}
 use Rattle.writer.proofs.put_cuts.Tie as tie
 
 abbrev Inv-loop : tie.InvT-loop
-Inv-loop cuts out₀ at₀ i₀ out at i = PuttingAll (bytes-of (cut-commands cuts)) (cut-piece cuts) (length cuts) out₀ out at i
+Inv-loop cuts out₀ blocks at₀ k₀ out at k = PuttingAll (bytes-of (cut-commands cuts)) (block-piece 128 cuts) blocks out₀ out at k
 
 abbrev μ-loop : tie.MeasureT-loop
-μ-loop cuts out₀ at₀ i₀ out at i = length cuts - i
+μ-loop cuts out₀ blocks at₀ k₀ out at k = blocks - k
 
 loop-holds : tie.Need-loop-holds Inv-loop μ-loop
-loop-holds c = putting-exact (cut-pieces (c .before .before .args .cuts .now)) (c .before .before .pre .1)
+loop-holds c =
+    let s = c .before .before in
+    let cuts = s .args .cuts .now in
+    putting-exact (cut-blocks 128 cuts (length cuts / 128) (omega (arith, s .pre .0))) (s .pre .1)
 
-shared-slice-read-put-cut : tie.Need-shared-slice-read-put-cut Inv-loop μ-loop
-shared-slice-read-put-cut c = search needs
+mul-first : tie.Need-mul-first Inv-loop μ-loop
+mul-first c = search needs
 
-sub-put-cut : tie.Need-sub-put-cut Inv-loop μ-loop
-sub-put-cut c = search needs
+add-put-block : tie.Need-add-put-block Inv-loop μ-loop
+add-put-block c = omega (arith, c .loop-test .taken)
 
-part-put-cut-start : tie.Need-part-put-cut-start Inv-loop μ-loop
-part-put-cut-start c = search needs
+sub-put-block : tie.Need-sub-put-block Inv-loop μ-loop
+sub-put-block c = search needs
 
-part-put-cut-end : tie.Need-part-put-cut-end Inv-loop μ-loop
-part-put-cut-end c = search needs
+part-put-block-start : tie.Need-part-put-block-start Inv-loop μ-loop
+part-put-block-start c = search needs
 
-put-cut-requires : tie.Need-put-cut-requires Inv-loop μ-loop
-put-cut-requires c κs = (search needs, putting-left (c .before .before .before .loop .inv) (c .before .before .loop-test .taken))
+part-put-block-end : tie.Need-part-put-block-end Inv-loop μ-loop
+part-put-block-end c = omega (arith, c .loop-test .taken, c .before .before .before .before .pre .0)
+
+sub-put-block-2 : tie.Need-sub-put-block-2 Inv-loop μ-loop
+sub-put-block-2 c = search needs
+
+part-put-block-start-2 : tie.Need-part-put-block-start-2 Inv-loop μ-loop
+part-put-block-start-2 c = search needs
+
+part-put-block-end-2 : tie.Need-part-put-block-end-2 Inv-loop μ-loop
+part-put-block-end-2 c = search needs
+
+put-block-requires : tie.Need-put-block-requires Inv-loop μ-loop
+put-block-requires c κs =
+    let t = c .before .before in
+    let l = t .before in
+    let cuts = l .before .before .before .args .cuts .now in
+    rw (block-is 128 cuts (l .loop .k))
+    (omega (arith, t .loop-test .taken, length-take 128 (drop (l .loop .k * 128) cuts)), putting-left (l .loop .inv) (t .loop-test .taken))
 
 loop-again : tie.Need-loop-again Inv-loop μ-loop
-loop-again c = search (putting-next, le-refl)
+loop-again c =
+    let t = c .before .before .before .before .before in
+    let l = t .before in
+    let e = block-is 128 (l .before .before .before .args .cuts .now) (l .loop .k) in
+    putting-next (l .loop .inv) (t .loop-test .taken) (le-refl _) (rw e at (c .before .before .put-block .ensures))
 
 add-at : tie.Need-add-at Inv-loop μ-loop
 add-at c = omega (arith, loop-again c .within)
 
-add-i : tie.Need-add-i Inv-loop μ-loop
-add-i c = search needs
+add-k : tie.Need-add-k Inv-loop μ-loop
+add-k c = omega (arith, c .before .before .before .before .before .loop-test .taken)
 
 loop-less : tie.Need-loop-less Inv-loop μ-loop
 loop-less c = search needs
@@ -59,13 +83,17 @@ put-cuts-spec =
     Inv-loop
     μ-loop
     loop-holds
-    shared-slice-read-put-cut
-    sub-put-cut
-    part-put-cut-start
-    part-put-cut-end
-    put-cut-requires
+    mul-first
+    add-put-block
+    sub-put-block
+    part-put-block-start
+    part-put-block-end
+    sub-put-block-2
+    part-put-block-start-2
+    part-put-block-end-2
+    put-block-requires
     add-at
-    add-i
+    add-k
     loop-less
     loop-again
     same-length

@@ -1,5 +1,6 @@
 -- The bytes of each group's tables, and what the functions that put them ask for. No part of the statement of `write`.
 use Prim.Native.Nat.{ℕ, _+_, _≤_, _<_}
+use mathlib.Core.Path.{_≡_}
 use mathlib.Core.List.{List, [], map}
 use lib.ListN.{length, getD, take}
 use lib.Dec.{eqb}
@@ -8,7 +9,7 @@ use Rattle.theory.specs.Deck.{Step}
 use Rattle.theory.specs.Lists.{sum}
 use Rattle.book.specs.Format.{run-limit, pick, Contents, contents, Command, pair, step, cut, done, command-bytes}
 use Rattle.book.specs.Render.{run-commands}
-use Rattle.book.specs.Book.{pairs-size, cuts-size, code-limit, step-coded, runs-of-lengths, pairs-of, cuts-of}
+use Rattle.book.specs.Book.{pairs-size, cuts-size, code-limit, cut-of, step-coded, flagged, runs-of-lengths, pairs-of, cuts-of}
 
 abbrev pub bytes-of : List Command → List ℕ
 bytes-of = each command-bytes
@@ -24,6 +25,10 @@ pair-commands ps = map pair (pairs-of ps)
 abbrev pub cut-commands : List ℕ → List Command
 cut-commands cs = map cut (cuts-of cs)
 
+-- of a part of a table of cuts, of which the first flag is at index i
+abbrev pub cut-commands-from : ℕ → List ℕ → List Command
+cut-commands-from i cs = map cut (map cut-of (flagged i cs))
+
 abbrev pub step-commands : List ℕ → List Command
 step-commands ss = map step (map step-coded ss)
 
@@ -36,6 +41,9 @@ abbrev pub table-contents : List ℕ → ℕ → List ℕ → List ℕ → List 
 table-contents ps d ls ss cs k h = contents (pairs-of ps) (runs-divided d ls ss) (cuts-of cs) (take k h)
 
 -- ---- what the tables hold
+
+pub record NoneAbove (xs : List ℕ) (m : ℕ) : Type 0 where
+  pub above : (i : ℕ) → getD xs i 0 ≤ m
 
 -- codes of steps
 pub record Codes (ss : List ℕ) : Type 0 where
@@ -52,6 +60,6 @@ pub record RunsHeld (d : ℕ) (ls ss : List ℕ) : Type 0 where
 pub record BookHeld (ps : List ℕ) (d : ℕ) (ls ss cs : List ℕ) (k : ℕ) (h : List ℕ) (n : ℕ) : Type 0 where
   pub pairs : length ps ≤ pairs-size
   pub runs : RunsHeld d ls ss
-  pub cuts : length cs ≤ cuts-size
+  pub cuts : length cs ≡ cuts-size
   pub history : k ≤ length h
   pub room : length (bytes-of (pair-commands ps)) + length (bytes-of (run-commands 0 (runs-divided d ls ss))) + length (bytes-of (cut-commands cs)) + length (bytes-of (map done (take k h))) + 1 ≤ n

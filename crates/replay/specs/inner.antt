@@ -1,0 +1,2 @@
+-- Calls: what the replay's own functions promise each other.
+pub mod Calls

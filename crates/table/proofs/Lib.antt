@@ -1,0 +1,2 @@
+-- BookTable: reading refuses as the table says.
+pub mod BookTable

@@ -1,0 +1,2 @@
+-- BookTable: the table of a book's refusals.
+pub mod BookTable
