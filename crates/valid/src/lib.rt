@@ -12,7 +12,7 @@ ghost use Rattle.valid.specs.TakenBack.{TakenBackAgree};
 ghost use Rattle.valid.specs.inner.Tables.{Largest, Counted, CountsValid, HistoryWithin};
 
 // The largest of the bytes from `start` on; 0 where there are none.
-fn largest(s: &[u8], start: usize) -> u8
+pub fn largest(s: &[u8], start: usize) -> u8
     ensures { λ r. ⌜ Largest (now (s .entry)) start r ⌝ }
 {
     let mut m: u8 = 0;

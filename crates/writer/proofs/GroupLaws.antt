@@ -2,10 +2,9 @@
 use mathlib.Core.Path.{_≡_, refl, ap, ap₂, _∙_}
 use mathlib.Core.List.{List, [], _∷_, _++_, map, append-nil, append-assoc}
 use mathlib.Core.Bool.{Bool, true, false}
-use Prim.Native.Nat.{ℕ, zero, suc, _+_, _-_, _*_, _≤_, _<_}
+use Prim.Native.Nat.{ℕ, zero, suc, _+_, _-_, _*_, _≤_, _<_, zero-le}
 use native.Mathlib.Decide.{decLe}
 use native.Mathlib.Omega.{arith}
-use borrow.Author.Count.{below-more}
 use borrow.Author.Tests.{eq-eqb, ne-eqb}
 use lib.ListN.{length, getD, take, drop, length-take, length-drop, List·getD-eq-default}
 use lib.Seq.{take-suc, length-take-le, getD-take, getD-drop}
@@ -26,7 +25,8 @@ use Rattle.book.specs.declared.Step.{Step as StepValue}
 use Rattle.book.specs.declared.Step.the-variants.{Single, Transfer}
 use Rattle.book.proofs.Groups.{runs-snoc}
 use Rattle.book.proofs.RenderLaws.{run-commands-append}
-use Rattle.writer.specs.inner.Groups.{bytes-of, flag-bytes, pair-commands, cut-commands, cut-commands-from, step-commands, runs-divided, NoneAbove, Codes, RunsHeld}
+use Rattle.valid.specs.inner.Tables.{Largest}
+use Rattle.writer.specs.inner.Groups.{bytes-of, flag-bytes, pair-commands, cut-commands, cut-commands-from, step-commands, runs-divided, Codes, RunsHeld}
 
 -- the first i of n pieces are put, and there is room for all
 abbrev pub PuttingAll : List ℕ → (ℕ → List ℕ) → ℕ → List ℕ → List ℕ → ℕ → ℕ → Type 0
@@ -92,31 +92,10 @@ parts-empty : (f : ℕ → List ℕ) (n : ℕ) → ((k : ℕ) → f k ≡ []) �
 parts-empty f zero e = refl
 parts-empty f (suc n) e = rw (parts-empty f n e, e n)
 
-pub none-put : (first : ℕ) (cs l : List ℕ) (m : ℕ) → NoneAbove cs m → m ≡ 0 → Put (bytes-of (cut-commands-from first cs)) l l 0
+pub none-put : (first : ℕ) (cs l : List ℕ) (m : ℕ) → Largest cs 0 m → m ≡ 0 → Put (bytes-of (cut-commands-from first cs)) l l 0
 unfolding flag-bytes
 none-put first cs l m z e =
-    rw (cut-pieces first cs, parts-empty (cut-piece first cs) (length cs) (λ k. rw (eq-eqb (getD cs k 0) 0 (omega (arith, z .above k))))) (none l)
-
--- the loop over the flags: none of the first i is above m
-pub record NoneAboveTo (xs : List ℕ) (i m : ℕ) : Type 0 where
-  pub above : (k : ℕ) → k < i → getD xs k 0 ≤ m
-
-module _ (xs : List ℕ) where
-  pub above-none : NoneAboveTo xs 0 0
-  above-none = record { above = λ k h. absurd (omega arith) }
-
-  pub above-same : (i m y : ℕ) → NoneAboveTo xs i m → getD xs i 0 ≤ m → y ≡ m → NoneAboveTo xs (i + 1) y
-  above-same i m y t h e = rw e (record { above = below-more _ i (t .above) h })
-
-  pub above-new : (i m y : ℕ) → NoneAboveTo xs i m → m < getD xs i 0 → y ≡ getD xs i 0 → NoneAboveTo xs (i + 1) y
-  above-new i m y t h e = rw e (record { above = below-more _ i (λ k l. omega (arith, t .above k l)) (omega arith) })
-
-  pub above-all : (i m : ℕ) → NoneAboveTo xs i m → length xs ≤ i → NoneAbove xs m
-  above-all i m t h = record { above = λ k. go k (decLe (length xs) k) }
-    where
-      go : (k : ℕ) → Dec (length xs ≤ k) → getD xs k 0 ≤ m
-      go k (yes a) = omega (arith, List·getD-eq-default xs 0 a)
-      go k (no a) = t .above k (omega arith)
+    rw (cut-pieces first cs, parts-empty (cut-piece first cs) (length cs) (λ k. rw (eq-eqb (getD cs k 0) 0 (omega (arith, z .above k zero-le))))) (none l)
 
 -- block k of a table in blocks of w flags
 abbrev pub block : ℕ → List ℕ → ℕ → List ℕ

@@ -15,7 +15,7 @@ ghost use Rattle.book.specs.Format.{pair, run, cut, done, step-bytes};
 ghost use Rattle.book.specs.Render.{run-commands, render};
 ghost use Rattle.book.specs.Book.{pairs-size, cuts-size, pair-of, cut-of, as-touch, as-step};
 ghost use Rattle.writer.specs.Written.{Wrote};
-ghost use Rattle.writer.specs.inner.Groups.{bytes-of, flag-bytes, pair-commands, cut-commands, cut-commands-from, step-commands, runs-divided, NoneAbove, Codes, RunsHeld, BookHeld, table-contents};
+ghost use Rattle.writer.specs.inner.Groups.{bytes-of, flag-bytes, pair-commands, cut-commands, cut-commands-from, step-commands, runs-divided, Codes, RunsHeld, BookHeld, table-contents};
 
 // What the writer answers.
 pub enum Written {
@@ -171,22 +171,6 @@ fn put_runs<'a>(declared: usize, lengths: &'a [u8], steps: &'a [u64], out: &mut 
     at
 }
 
-// The largest of these flags; 0 where there are none.
-fn largest(flags: &[u8]) -> u8
-    ensures { λ r. ⌜ NoneAbove (now (flags .entry)) r ⌝ }
-{
-    let mut m: u8 = 0;
-    let mut i: usize = 0;
-    while i < flags.len() {
-        let x = flags[i];
-        if m < x {
-            m = x;
-        }
-        i += 1;
-    }
-    m
-}
-
 // The cuts of these flags, of which the first is at index `first` of the table.
 fn put_flags(flags: &[u8], first: usize, out: &mut [u8]) -> usize
     requires { ⌜ (first + length (now flags) ≤ cuts-size) × (length (bytes-of (cut-commands-from first (now flags))) ≤ length (now out)) ⌝ }
@@ -207,7 +191,7 @@ fn put_block(flags: &[u8], first: usize, out: &mut [u8]) -> usize
     requires { ⌜ (first + length (now flags) ≤ cuts-size) × (length (bytes-of (cut-commands-from first (now flags))) ≤ length (now out)) ⌝ }
     ensures { λ r. ⌜ Put (bytes-of (cut-commands-from first (now (flags .entry)))) (now (out .entry)) (now (out .exit)) r ⌝ }
 {
-    if largest(flags) == 0 {
+    if valid::largest(flags, 0) == 0 {
         return 0;
     }
     put_flags(flags, first, out)

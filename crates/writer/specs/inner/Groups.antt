@@ -42,9 +42,6 @@ table-contents ps d ls ss cs k h = contents (pairs-of ps) (runs-divided d ls ss)
 
 -- ---- what the tables hold
 
-pub record NoneAbove (xs : List ℕ) (m : ℕ) : Type 0 where
-  pub above : (i : ℕ) → getD xs i 0 ≤ m
-
 -- codes of steps
 pub record Codes (ss : List ℕ) : Type 0 where
   pub small : (i : ℕ) → getD ss i 0 < code-limit
