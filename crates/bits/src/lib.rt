@@ -1,4 +1,6 @@
 // Tables of bits. A row is ROW_WORDS words of 64 bits, and a table has as many rows as a row has bits.
+#![tactic(auto)]
+
 ghost use Rattle.std.specs.Prelude.{◌≡◌, ℕ, ◌<◌, length, eqb};
 ghost use Rattle.bits.specs.Table.{row_words, row_bits, rows, table_words, bit, bit_at, union, intersection, difference, column, Alone, Marked, Replaced, RowCopied, Subset};
 ghost use Rattle.bits.specs.First.{First};
@@ -16,7 +18,7 @@ pub type Row = [u64; ROW_WORDS];
 
 pub type Table = [u64; TABLE_WORDS];
 
-#[derive(Drop)]
+#[derive(Clone, Copy)]
 pub enum Found {
     At(usize),
     Nothing,

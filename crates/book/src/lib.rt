@@ -1,5 +1,7 @@
 // The deck book: its type and limits, its steps and their touches, the causes of refusal and their numbers, and the book with another history, or with some
 // runs' steps left out of its own.
+#![tactic(auto)]
+
 ghost use Rattle.std.specs.Prelude.{◌≡◌, ◌+◌, ◌*◌, ◌<◌};
 ghost use Rattle.theory.specs.History.{project};
 ghost use Rattle.theory.specs.Deck.{home};
@@ -9,7 +11,7 @@ ghost use Rattle.book.specs.Book.{touch_limit, code_limit, touch_coded, step_cod
 
 // Why something is turned away: one for each row of document 01's table and each check of document 02, changes 1 and 7, two of the replay's own, one for a
 // gate's record that is not sound, and one for a run that is no island's smallest.
-#[derive(Drop)]
+#[derive(Clone, Copy)]
 pub enum Cause {
     // A book over the length limit.
     BookTooLong,
@@ -94,7 +96,7 @@ pub fn number_of(cause: Cause) -> u8
 }
 
 // What a dialect of the format sets.
-#[derive(Drop)]
+#[derive(Clone, Copy)]
 pub struct Rules {
     // The most steps in all.
     pub step_limit: u16,
@@ -107,14 +109,14 @@ pub struct Rules {
 }
 
 // A touch: its kind and its position.
-#[derive(Drop)]
+#[derive(Clone, Copy)]
 pub struct Touch {
     pub kind: u8,
     pub position: u16,
 }
 
 // A step.
-#[derive(Drop)]
+#[derive(Clone, Copy)]
 pub enum Step {
     // 53: one touch.
     Single(Touch),
@@ -175,7 +177,7 @@ pub fn kinds_low(x: Step) -> bool
 
 // A deck book. What it means is `contents_of` in specs/Book.antt.
 #[repr(C)]
-#[derive(Drop)]
+#[derive(Clone, Copy)]
 pub struct Book {
     // 1 at a * KINDS + b for each listed pair of kinds a, b; else 0.
     pub pairs: [u8; Book::PAIRS_SIZE],
@@ -250,14 +252,14 @@ impl Book {
 
 // The limits are the format's, and a touch homes where the theory's does.
 fn limits()
-    ensures* do_value { do ⌜ (← (⟦Book::KINDS⟧).entry) ≡ kind_limit ⌝ }
-    ensures* do_value_2 { do ⌜ (← (⟦Book::POSITIONS⟧).entry) ≡ position_limit ⌝ }
-    ensures* do_value_3 { do ⌜ (← (⟦Book::TOUCHES⟧).entry) ≡ touch_limit ⌝ }
-    ensures* do_value_4 { do ⌜ (← (⟦Book::HOME⟧).entry) ≡ home ⌝ }
-    ensures* do_value_5 { do ⌜ (← (⟦Book::RUNS⟧).entry) ≡ run_limit ⌝ }
-    ensures* do_value_6 { do ⌜ (← (⟦Book::RUN_STEPS⟧).entry) ≡ run_step_limit ⌝ }
-    ensures* do_value_7 { do ⌜ (← (⟦Book::STEPS⟧).entry) ≡ step_limit ⌝ }
-    ensures* do_value_8 { do ⌜ (← (⟦Book::LENGTH⟧).entry) ≡ length_limit ⌝ }
+    ensures kinds { Book.KINDS ≡ kind_limit }
+    ensures positions { Book.POSITIONS ≡ position_limit }
+    ensures touches { Book.TOUCHES ≡ touch_limit }
+    ensures home_position { Book.HOME ≡ home }
+    ensures runs { Book.RUNS ≡ run_limit }
+    ensures run_steps { Book.RUN_STEPS ≡ run_step_limit }
+    ensures steps { Book.STEPS ≡ step_limit }
+    ensures length_of_book { Book.LENGTH ≡ length_limit }
 {}
 
 // A byte as a number.
@@ -268,14 +270,14 @@ pub fn wide(x: u8) -> usize
 }
 
 // What reading a book answers: refused, with the cause and the place; or accepted.
-#[derive(Drop)]
+#[derive(Clone, Copy)]
 pub enum Answer {
     Refused(Cause, usize),
     Accepted,
 }
 
 // The answer, and the book; where it is refused, the empty book.
-#[derive(Drop)]
+#[derive(Clone, Copy)]
 pub struct Reading {
     pub answer: Answer,
     pub book: Book,

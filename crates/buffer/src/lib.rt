@@ -1,4 +1,6 @@
 // Bytes put at the front of a buffer that the caller lends. Each function answers how many.
+#![tactic(auto)]
+
 ghost use Rattle.std.specs.Prelude.{[], ◌∷◌, ◌≤◌, length};
 ghost use Rattle.buffer.specs.Put.{Put};
 

@@ -1,4 +1,6 @@
 // The calls for programs in C, declared in include/deck.h: thin entries over byte slices that answer numbers.
+#![tactic(auto)]
+
 ghost use Rattle.std.specs.Prelude.{◌≡◌};
 ghost use Rattle.theory.specs.Relative.{RelativelySerialOrder};
 ghost use Rattle.theory.specs.Graph.{Cycle};
@@ -25,7 +27,7 @@ use writer::Written;
 
 // The number of a refusal or 0, its place or 0, and what the call answers or 0.
 #[repr(C)]
-#[derive(Drop)]
+#[derive(Clone, Copy)]
 pub struct Answered {
     pub number: u64,
     pub place: u64,
@@ -34,7 +36,7 @@ pub struct Answered {
 
 // The number of a refusal or 0, its place or 0; the verdict: 0 refused, 1 passed, 2 tangled; the count.
 #[repr(C)]
-#[derive(Drop)]
+#[derive(Clone, Copy)]
 pub struct Judged {
     pub number: u64,
     pub place: u64,
@@ -44,7 +46,7 @@ pub struct Judged {
 
 // The number of a refusal or 0, its place or 0, and the gate, which has no runs where the book was refused.
 #[repr(C)]
-#[derive(Drop)]
+#[derive(Clone, Copy)]
 pub struct OpenedGate {
     pub number: u64,
     pub place: u64,
@@ -54,7 +56,7 @@ pub struct OpenedGate {
 // The number of a refusal or 0, its place or 0; the number of runs, and of islands; of each run the smallest run of its island, and the islands' smallest
 // runs, rising; 0 behind the last.
 #[repr(C)]
-#[derive(Drop)]
+#[derive(Clone, Copy)]
 pub struct ListedIslands {
     pub number: u64,
     pub place: u64,
@@ -66,7 +68,7 @@ pub struct ListedIslands {
 
 // The number of a refusal or 0, its place or 0; the number of an island's done steps, and the run of each; 0 behind the last.
 #[repr(C)]
-#[derive(Drop)]
+#[derive(Clone, Copy)]
 pub struct ListedSteps {
     pub number: u64,
     pub place: u64,

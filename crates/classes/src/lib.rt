@@ -1,4 +1,6 @@
 // The class tests: serial, relatively atomic, relatively serial, conflict serializable.
+#![tactic(auto)]
+
 ghost use Rattle.std.specs.Prelude.{◌<◌, ◌≡◌, take};
 ghost use Rattle.theory.specs.History.{Serial};
 ghost use Rattle.book.specs.Book.{Valid, contents_of};
@@ -16,7 +18,7 @@ use book::{Answer, Book, Cause};
 use graph::Units;
 
 // What a call that reads a book and answers yes or no says.
-#[derive(Drop)]
+#[derive(Clone, Copy)]
 pub enum Tested {
     Refused(Cause, usize),
     Yes,

@@ -1,4 +1,6 @@
 // The program: reads a book from standard input and writes the report on it to standard output.
+#![tactic(auto)]
+
 use book::Book;
 use libc::{STDIN_FILENO, STDOUT_FILENO};
 

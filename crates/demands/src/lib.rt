@@ -3,6 +3,8 @@
 // another and ensures that they are all that hold, `lettered_text` makes the text and ensures that each letter under a cycle is the first that holds;
 // `feed_step` has one more step of a history read, and ensures what the one pass over it promises; `run_taken_back` takes a run back, and ensures what that
 // does; `islands_judged` judges a book and each of its islands, and ensures that the whole is passed exactly when each is. `claims` states all this, and proves it of whatever meets the calls' contracts.
+#![tactic(auto)]
+
 ghost use Rattle.book.specs.Book.{Valid, as_step, outcome_by};
 ghost use Rattle.plain.specs.Plain.{step as step_call, withdraw as withdraw-call, take_back as take-back-call};
 ghost use Rattle.capi.specs.Calls.{GateCall};
@@ -19,7 +21,7 @@ use judge::{Judgement, Verdict};
 use replay::Replayed;
 
 // What the calls that read a book and change nothing return.
-#[derive(Drop)]
+#[derive(Clone, Copy)]
 pub struct BookAnswers {
     pub read_book: Answered,
     pub serial: Answered,
@@ -33,7 +35,7 @@ pub struct BookAnswers {
 }
 
 // What the calls that are lent a buffer return.
-#[derive(Drop)]
+#[derive(Clone, Copy)]
 pub struct BufferAnswers {
     pub judged: Judged,
     pub written: Answered,
@@ -41,14 +43,14 @@ pub struct BufferAnswers {
 }
 
 // What a call for C on a gate's record answers, and the record as it leaves it.
-#[derive(Drop)]
+#[derive(Clone, Copy)]
 pub struct DeckCalled {
     pub answer: Answered,
     pub gate: Gate,
 }
 
 // What the calls on a gate's record return.
-#[derive(Drop)]
+#[derive(Clone, Copy)]
 pub struct GateAnswers {
     pub stepped: DeckCalled,
     pub withdrawn: DeckCalled,
@@ -153,7 +155,7 @@ fn text_answer(s: &[u8], text: &mut [u8; report::TEXT]) -> usize
 }
 
 // What every call returns.
-#[derive(Drop)]
+#[derive(Clone, Copy)]
 pub struct AllAnswers {
     pub of_book: BookAnswers,
     pub of_buffers: BufferAnswers,
@@ -195,7 +197,7 @@ pub fn demand_1<'a>(
 }
 
 // What the calls on islands return.
-#[derive(Drop)]
+#[derive(Clone, Copy)]
 pub struct IslandAnswers {
     pub islands: ListedIslands,
     pub history: ListedSteps,
@@ -232,7 +234,7 @@ pub fn demand_3(s: &[u8], calls: &[u8], answers: &mut [u8]) -> Replayed
 }
 
 // What the four class tests and the judge answer to one book.
-#[derive(Drop)]
+#[derive(Clone, Copy)]
 pub struct ClassAnswers {
     pub serial: Tested,
     pub atomic: Tested,
@@ -280,7 +282,7 @@ pub fn nested_classes(s: &[u8]) -> ClassAnswers
 }
 
 // What the four class tests and the judge for C answer to one book.
-#[derive(Drop)]
+#[derive(Clone, Copy)]
 pub struct DeckClassAnswers {
     pub serial: Answered,
     pub atomic: Answered,
@@ -373,7 +375,7 @@ fn island_verdicts(s: &[u8], list: [u8; Book::RUNS], count: u64) -> [u64; Book::
 }
 
 // What the calls for C say of a book, of its islands, and of each of these.
-#[derive(Drop)]
+#[derive(Clone, Copy)]
 pub struct WholeAnswers {
     pub judged: Judged,
     pub islands: ListedIslands,

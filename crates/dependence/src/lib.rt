@@ -1,4 +1,6 @@
 // Dependence, step by step as a history is read, and direct dependence by runs.
+#![tactic(auto)]
+
 ghost use Rattle.std.specs.Prelude.{◌≡◌, ◌+◌, ◌*◌, ◌<◌, ◌≤◌, length, take};
 ghost use Rattle.theory.specs.Deck.{single, listed};
 ghost use Rattle.theory.specs.Relative.{Depends};

@@ -1,4 +1,6 @@
 // The evidence checks and the arc test.
+#![tactic(auto)]
+
 ghost use Rattle.std.specs.Prelude.{◌≡◌, ◌≤◌, take};
 ghost use Rattle.theory.specs.Relative.{RelativelySerialOrder};
 ghost use Rattle.theory.specs.Graph.{Cycle};
@@ -21,7 +23,7 @@ use graph::Units;
 use names::ArcNames;
 
 // What the arc test of a book's bytes says: the reader's refusal, or the names of the arcs.
-#[derive(Drop)]
+#[derive(Clone, Copy)]
 pub enum Named {
     Refused(Cause, usize),
     Arcs(ArcNames),

@@ -1,4 +1,6 @@
 // The gate: one record, updated by each call. Opening, step, withdraw and take back.
+#![tactic(auto)]
+
 ghost use Rattle.std.specs.Prelude.{◌≤◌};
 ghost use Rattle.theory.specs.Answers.{Answers};
 ghost use Rattle.book.specs.Format.{run_limit, done, effect, read};
@@ -11,7 +13,7 @@ use book::{Answer, Book, Cause};
 
 // The book, whose history is the kept list, and two flags for each run: 1 once it is withdrawn, and 1 once it is taken back, else 0.
 #[repr(C)]
-#[derive(Drop)]
+#[derive(Clone, Copy)]
 pub struct Gate {
     pub book: Book,
     pub withdrawn: [u8; Book::RUNS],
@@ -19,7 +21,7 @@ pub struct Gate {
 }
 
 // The answer to a call.
-#[derive(Drop)]
+#[derive(Clone, Copy)]
 pub enum Reply {
     // The place of an admitted step.
     Place(usize),
@@ -29,14 +31,14 @@ pub enum Reply {
 }
 
 // The answer to a call, and the record as it leaves it.
-#[derive(Drop)]
+#[derive(Clone, Copy)]
 pub struct Called {
     pub answer: Reply,
     pub gate: Gate,
 }
 
 // Accepted, or refused with cause and place; and the gate, which has no runs where the book is refused.
-#[derive(Drop)]
+#[derive(Clone, Copy)]
 pub struct Opened {
     pub answer: Answer,
     pub gate: Gate,
@@ -76,7 +78,7 @@ fn is_sound(g: Gate) -> bool
 }
 
 // Whether a call for a run is refused by 20, 21 or 22.
-#[derive(Drop)]
+#[derive(Clone, Copy)]
 enum Eligibility {
     Eligible,
     Refused(Cause),

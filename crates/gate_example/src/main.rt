@@ -1,5 +1,7 @@
 // Document 01's gate example, run: a gate over the runs of row 2, uncut, and the answers to its eight calls, a line each. Behind them those to calls on
 // another gate over the same runs, which take runs back (document 02, change 7).
+#![tactic(auto)]
+
 use libc::STDOUT_FILENO;
 use replay::Played;
 

@@ -1,4 +1,6 @@
 // The graph of a history: units and arc rows.
+#![tactic(auto)]
+
 ghost use Rattle.std.specs.Prelude.{◌≡◌, ◌≢◌, ◌+◌, ◌*◌, ◌<◌, ◌≤◌, length, take};
 ghost use Rattle.theory.specs.Graph.{FirstOf, LastOf};
 ghost use Rattle.book.specs.Format.{run_limit, step_limit};

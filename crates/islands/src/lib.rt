@@ -1,4 +1,6 @@
 // Islands: the connected components of a book's runs by conflicts of done steps, each named by its smallest run; an island's history; an island judged.
+#![tactic(auto)]
+
 ghost use Rattle.std.specs.Prelude.{◌≡◌, ◌+◌, ◌<◌, ◌≤◌, length};
 ghost use Rattle.theory.specs.Answers.{Answers};
 ghost use Rattle.book.specs.Format.{run_limit, step_limit};
@@ -13,7 +15,7 @@ use judge::Judgement;
 
 // What the islands of a book are: the reader's refusal, or accepted; of each run the smallest run of its island, 0 behind the last; the islands' smallest
 // runs, rising, 0 behind the last; the number of runs, and that of islands.
-#[derive(Drop)]
+#[derive(Clone, Copy)]
 pub struct IslandList {
     pub answer: Answer,
     pub smallest: [u8; Book::RUNS],
@@ -23,7 +25,7 @@ pub struct IslandList {
 }
 
 // What an island's history is: a refusal, or accepted; the run of each of its steps, 0 behind the last; their number.
-#[derive(Drop)]
+#[derive(Clone, Copy)]
 pub struct IslandSteps {
     pub answer: Answer,
     pub history: [u8; Book::STEPS],

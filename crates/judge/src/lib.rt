@@ -1,4 +1,6 @@
 // The judge: the order that takes the smallest ready place at each turn, or a cycle and the names of its arcs, in buffers that the caller lends.
+#![tactic(auto)]
+
 ghost use Rattle.std.specs.Prelude.{◌≡◌, ◌<◌, ◌≤◌, length, take};
 ghost use Rattle.book.specs.Format.{step_limit};
 ghost use Rattle.book.specs.Meaning.{conflict_of, unit_of, RelativelySerializableHistory};
@@ -18,7 +20,7 @@ use book::{Answer, Book, Cause};
 use graph::Units;
 
 // What the judge says of a history: passed, if it is relatively serializable, else tangled; or refused, with the cause and the place.
-#[derive(Drop)]
+#[derive(Clone, Copy)]
 pub enum Verdict {
     Refused(Cause, usize),
     Passed,
@@ -26,7 +28,7 @@ pub enum Verdict {
 }
 
 // The verdict, and how many bytes of its buffer are filled: the done steps if passed, the cycle's length if tangled, 0 if refused.
-#[derive(Drop)]
+#[derive(Clone, Copy)]
 pub struct Judgement {
     pub verdict: Verdict,
     pub count: usize,

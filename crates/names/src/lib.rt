@@ -1,4 +1,6 @@
 // The names of the arcs from one place to another: which of I, D, F and B lead there.
+#![tactic(auto)]
+
 ghost use Rattle.std.specs.Prelude.{◌≡◌, cond, ◌+◌, ◌*◌, ◌<◌, ◌≤◌, take};
 ghost use Rattle.theory.specs.Answers.{Answers};
 ghost use Rattle.bits.specs.Table.{rows, bit_at, intersection};
@@ -15,7 +17,7 @@ use book::Book;
 use graph::Units;
 
 // Which of I, D, F and B lead from one place to another.
-#[derive(Drop)]
+#[derive(Clone, Copy)]
 pub struct ArcNames {
     pub i: bool,
     pub d: bool,

@@ -1,5 +1,7 @@
 // Reads books from standard input and writes a line for each: its label, and what the reader answers.
 // A book stands there as the label's length in one byte, the label, the book's length in two bytes, high first, and the book.
+#![tactic(auto)]
+
 ghost use Rattle.std.specs.Prelude.{◌<◌, length};
 
 use book::Answer;

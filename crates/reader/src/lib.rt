@@ -1,4 +1,6 @@
 // The reader: from the bytes of a deck book to its tables, or the refusal.
+#![tactic(auto)]
+
 ghost use Rattle.std.specs.Prelude.{◌≡◌, ◌+◌, ◌*◌, ◌≤◌, ◌<◌, length};
 ghost use Rattle.book.specs.Format.{kind_limit, position_limit, run_limit, run_step_limit, step_limit, refused, step, width, touch_of_bytes, obey, pair_at, run_at, single_at, transfer_at, cut_at, done_at, end_at, command_at, read_commands, read_by, read};
 ghost use Rattle.book.specs.Book.{pairs_size, cuts_size, run_cuts, as_touch, as_step, Fitting, ReadAs};
@@ -8,7 +10,7 @@ use book::{Answer, Book, Cause, Reading, Rules, Step, Touch, wide};
 
 // The rules, and what the commands so far leave for the next one: the group of the last one, the least index that the next pair and the next
 // cut may have in their tables, the number of steps of the last run, and the counts of the book so far.
-#[derive(Drop)]
+#[derive(Clone, Copy)]
 struct Progress {
     rules: Rules,
     group: u8,
@@ -87,7 +89,7 @@ impl Progress {
 }
 
 // What the command at an offset says: what to add to the book, the end, or a refusal with its cause and place.
-#[derive(Drop)]
+#[derive(Clone, Copy)]
 enum Parsed {
     // The index of a pair.
     Pair(usize),
@@ -352,7 +354,7 @@ fn width(command: Parsed) -> usize
 }
 
 // A command, and the offset behind it.
-#[derive(Drop)]
+#[derive(Clone, Copy)]
 struct CommandRead {
     command: Parsed,
     at: usize,
@@ -378,7 +380,7 @@ fn command_read_at<'a, 't>(
 }
 
 // The reader: the book's bytes, and how far it has come.
-#[derive(Drop)]
+#[derive(Clone, Copy)]
 struct Reader<'a> {
     src: &'a [u8],
     at: usize,

@@ -1,4 +1,6 @@
 // The replay of a whole list of calls, in bytes, on a gate newly opened over a book.
+#![tactic(auto)]
+
 ghost use Rattle.std.specs.Prelude.{◌≡◌};
 ghost use Rattle.gate.specs.Gate.{CalledAs};
 ghost use Rattle.replay.specs.Replay.{is_call, call_of, calls_of, bad_at, Replays};
@@ -28,7 +30,7 @@ fn call_value(g: Gate, op: u8, r: u8) -> Called
 }
 
 // The two bytes of an answer: 0 and the place, 1 and 0 for "withdrawn", 2 and a refusal's number, 3 and 0 for "taken back".
-#[derive(Drop)]
+#[derive(Clone, Copy)]
 struct AnswerBytes {
     first: u8,
     second: u8,
@@ -101,7 +103,7 @@ fn play(g: Gate, calls: &[u8], answers: &mut [u8]) -> Gate
 }
 
 // What a replay answers.
-#[derive(Drop)]
+#[derive(Clone, Copy)]
 pub enum Played {
     // The cause; its place in the book, or for 24 its offset in the list.
     Refused(Cause, usize),
@@ -110,7 +112,7 @@ pub enum Played {
 }
 
 // The answer, and the record as the last call left it; where the replay is refused, as opening left it.
-#[derive(Drop)]
+#[derive(Clone, Copy)]
 pub struct Replayed {
     pub played: Played,
     pub gate: Gate,

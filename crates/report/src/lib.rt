@@ -1,4 +1,6 @@
 // The report on a book: the program's text, put into a buffer that the caller lends. Each function that puts bytes answers how many.
+#![tactic(auto)]
+
 ghost use Rattle.std.specs.Prelude.{◌≡◌, false, [], ◌∷◌, ◌++◌, map, ◌+◌, ◌*◌, ◌<◌, ◌≤◌, length};
 ghost use Rattle.buffer.specs.Put.{Put};
 ghost use Rattle.book.specs.Format.{accepted, read, step_limit};
@@ -41,7 +43,7 @@ pub const TEXT: usize = DONE_WIDTH
     + ARCS_WIDTH;
 
 // The answers of the four class tests.
-#[derive(Drop)]
+#[derive(Clone, Copy)]
 struct Classes {
     serial: bool,
     atomic: bool,

@@ -1,4 +1,6 @@
 // Turns over a table of arcs: the smallest ready place at each turn, and where none is ready a cycle.
+#![tactic(auto)]
+
 ghost use Rattle.std.specs.Prelude.{◌<◌, ◌≤◌, length};
 ghost use Rattle.bits.specs.Table.{row_bits};
 ghost use Rattle.book.specs.Format.{step_limit};
@@ -11,7 +13,7 @@ use bits::{Found, Row, Table};
 use book::Book;
 
 // The turns so far: how many, the run numbers of the places taken, in that order, and the set of these places.
-#[derive(Drop)]
+#[derive(Clone, Copy)]
 pub struct Turns {
     pub count: usize,
     pub order: [u8; Book::STEPS],

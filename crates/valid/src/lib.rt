@@ -1,4 +1,6 @@
 // Whether the tables of a book, of any bytes, are those of a valid one, and whether those of a gate agree about its runs taken back.
+#![tactic(auto)]
+
 ghost use Rattle.std.specs.Prelude.{◌≡◌, ◌≤◌, length, take};
 ghost use Rattle.theory.specs.Answers.{Answers};
 ghost use Rattle.theory.specs.Lists.{sum};

@@ -1,5 +1,7 @@
 // The writer: it reads a book, and puts the bytes of what was read into a lent buffer. One function a group, each lent what is left of the
 // buffer behind the group before. Each function that puts bytes answers how many.
+#![tactic(auto)]
+
 ghost use Rattle.std.specs.Prelude.{◌≡◌, [], ◌∷◌, map, ◌+◌, ◌<◌, ◌≤◌, length, take};
 ghost use Rattle.buffer.specs.Put.{Put};
 ghost use Rattle.theory.specs.Deck.{single, transfer};
@@ -12,7 +14,7 @@ ghost use Rattle.writer.specs.Inner.Groups.{bytes_of, flag_bytes, pair_commands,
 use book::{Answer, Book, Cause, Step, Touch};
 
 // What the writer answers.
-#[derive(Drop)]
+#[derive(Clone, Copy)]
 pub enum Written {
     // So many bytes are put: the book's length.
     Length(usize),

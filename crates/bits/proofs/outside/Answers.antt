@@ -3,13 +3,9 @@ use mathlib.Core.Path.{ap, ◌∙◌}
 use Prim.Native.Nat.{◌-◌, ◌^◌, min}
 use Rattle.bits.specs.Table.{bit}
 use Rattle.bits.proofs.Word.{bit_of_and, bit_not}
-use Rattle.bits.proofs.outside.Statement.{statement}
-use Rattle.bits.proofs.outside.Tie as tie
+use Rattle.bits.proofs.outside.Goals as goal
 
-returns : tie.Need-returns
+pub returns : goal.returns
 returns c =
     let a = c.args in
     λ b h. bit_of_and a.w (2 ^ 64 - 1 - a.m) b ∙ ap (min (bit a.w b)) (bit_not 64 a.m b c.ranges.m.fits h)
-
-pub outside-spec : {M : Type 1} → statement M
-outside-spec = tie.close (tie.spec returns)

@@ -1,0 +1,14 @@
+-- After k turns the first k words of the row dst are those of the union with what the row src has in the mask.
+use Prim.Native.Nat.{◌-◌}
+use mathlib.Core.Path.{◌≡◌}
+use lib.ListN.{length}
+use Rattle.bits.specs.Table.{row_words, table_words, bit_at, union, intersection}
+use Rattle.bits.proofs.Store.{ReplacedUpTo}
+use Rattle.bits.proofs.join_within.Given as goal
+
+abbrev pub invariant-loop-k : goal.invariant-loop-k
+invariant-loop-k l =
+    (length l.initial.t ≡ table_words) × ReplacedUpTo l.initial.t l.t l.dst (union (bit_at l.initial.t l.dst) (intersection (bit_at l.u l.src) (bit_at l.mask 0))) l.k
+
+abbrev pub decreases-loop-k : goal.decreases-loop-k
+decreases-loop-k l = row_words - l.k

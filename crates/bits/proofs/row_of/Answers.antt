@@ -1,0 +1,19 @@
+use Prim.Native.Nat.{◌-◌}
+use native.Mathlib.Omega.{arith}
+use Rattle.bits.proofs.Store.{replaced_none, copied_more, copied_all}
+use borrow.Author.Rules.{rules}
+use Rattle.bits.proofs.row_of.Goals as goal
+
+pub loop-k-init : goal.loop-k-init
+loop-k-init c = (search rules, replaced_none _ _ _)
+
+pub loop-k-preserved : goal.loop-k-preserved
+loop-k-preserved c =
+    let h = c in
+    let a = h.args in (
+      h.loop-k.invariant.0,
+      copied_more _ _ _ 0 a.row _ _ _ (omega arith) (omega arith) (omega arith) (omega arith) h.loop-k.invariant.1,
+    )
+
+pub returns : goal.returns
+returns c = copied_all (omega arith) c.loop-k.invariant.1
