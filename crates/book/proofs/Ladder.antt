@@ -17,6 +17,7 @@ Holds [] = Unit {0}
 Holds (t ∷ ts) = (t.holds ≡ true) × Holds ts
 
 pub checks_fail : (ts : List Test) (c : Cause) (at : ℕ) (m : Move) → Fails ts c → checks ts at m ≡ over (refused c at)
+checks_fail [] c at m x' = elim x' [ ]
 checks_fail (t ∷ ts) c at m (here e) = rw e
 checks_fail (t ∷ ts) c at m (there e f) = rw e (checks_fail ts c at m f)
 

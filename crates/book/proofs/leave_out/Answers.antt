@@ -1,7 +1,7 @@
 use Prim.Native.Nat.{◌-◌}
-use mathlib.Core.Logic.{⊎_elim}
 use Rattle.book.proofs.LeaveOut.{none_left_out, place_inside, flag_inside, stays_place, stays_fits, stays_next, one_left_out, one_stays, all_left_out}
 use borrow.Author.Rules.{rules}
+use Rattle.book.proofs.leave_out.Goals.{then-flags-r-eq0, else-flags-r-eq0}
 use Rattle.book.proofs.leave_out.Goals as goal
 
 pub loop-i-init : goal.loop-i-init
@@ -29,7 +29,7 @@ pub overflow_add-n : goal.overflow_add-n
 overflow_add-n c = search stays_next
 
 pub loop-i-preserved : goal.loop-i-preserved
-loop-i-preserved c = ⊎_elim (λ w. search one_stays) (λ w. search one_left_out) c.if-flags-r-eq0.branch
+loop-i-preserved c = elim c.if-flags-r-eq0.branch [ then-flags-r-eq0 w ↦ search one_stays | else-flags-r-eq0 w ↦ search one_left_out ]
 
 pub returns : goal.returns
 returns c = search all_left_out
