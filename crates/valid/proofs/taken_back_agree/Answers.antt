@@ -1,0 +1,19 @@
+use Prim.Native.Nat.{◌-◌}
+use mathlib.Core.Logic.{⊎_elim}
+use Rattle.valid.proofs.Scans.{agree_none, agree_more, not_taken_back, agree_all, not_withdrawn, step_kept_of_it}
+use Rattle.valid.proofs.taken_back_agree.Goals as goal
+
+pub loop-r-init : goal.loop-r-init
+loop-r-init c = search agree_none
+
+pub returns-then-withdrawn-r-eq0 : goal.returns-then-withdrawn-r-eq0
+returns-then-withdrawn-r-eq0 c = search not_withdrawn
+
+pub returns-then-counts-r-ne0 : goal.returns-then-counts-r-ne0
+returns-then-counts-r-ne0 c = search step_kept_of_it
+
+pub loop-r-preserved : goal.loop-r-preserved
+loop-r-preserved c = ⊎_elim (λ w. search agree_more) (λ w. search not_taken_back) c.if-taken_back-r-ne0.branch
+
+pub returns : goal.returns
+returns c = search agree_all
