@@ -158,12 +158,12 @@ module _ (t : List ℕ) (r : ℕ) (x : Touch) where
         from pairs w runs h c p i b =
             let a = (f.columns pairs w runs h c).sound p i b.0 in
             let g = in_either pairs w runs h c p i (either_one (bit_at t row p) (bit_at t other p) (bit_at_lt t row p) (bit_at_lt t other p) b.1) in
-            has_more a (λ z. record { kinds = z.kinds; same = λ j l. go j (below_next j k l) z.same g })
+            has_more a (λ z. record { kinds = z.kinds; same = λ j l. go {s = run_in w (run h p)} (touch_in w (done_step runs h p)) j (below_next j k l) z.same g })
           where
-            go : {s : ℕ} {y : Touch} (j : ℕ) → (j ≡ k) ⊎ (j < k) → ((j : ℕ) → j < k → SamePart s y r x j) → SamePart s y r x k
+            go : {s : ℕ} (y : Touch) (j : ℕ) → (j ≡ k) ⊎ (j < k) → ((j : ℕ) → j < k → SamePart s y r x j) → SamePart s y r x k
                 → SamePart s y r x j
-            go j (inl z) f g = rw z g
-            go j (inr l) f g = f j l
+            go y j (inl z) f g = rw z g
+            go y j (inr l) f g = f j l
 
 -- touches with the same digits are at the same position
 same_digits : (s r : ℕ) (y x : Touch) → ((k : ℕ) → k < digit_parts → part s y k ≡ part r x k) → y.position ≡ x.position

@@ -7,4 +7,4 @@ pub link_steps-requires : goal.link_steps-requires
 link_steps-requires c = (search book_history, search book_room, search book_steps, search blank_zeros, search blank_zeros, search blank_zeros)
 
 pub returns : goal.returns
-returns c = (search linked_run_rows, search book_links)
+returns c = record { run_rows = search linked_run_rows; marks = search book_links }

@@ -13,8 +13,5 @@ overflow_add-n c = omega (arith, c.shared_slice_known-1.given c.loop-i.i)
 pub loop-i-preserved : goal.loop-i-preserved
 loop-i-preserved c = counted_lifted _ _ _ c.loop-i.invariant (c.shared_slice_known-1.given c.loop-i.i)
 
-pub overflow_add-n-in-loop-i : goal.overflow_add-n-in-loop-i
-overflow_add-n-in-loop-i c = omega (arith, (loop-again c).low, add-i c)
-
 pub returns : goal.returns
 returns c = search (counted_all, rules)

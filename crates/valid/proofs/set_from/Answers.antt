@@ -1,8 +1,8 @@
 use Prim.Native.Nat.{◌-◌}
-use mathlib.Core.Logic.{⊎_elim}
 use native.Mathlib.Omega.{arith}
 use borrow.Author.Rules.{rules}
 use Rattle.valid.proofs.Scans.{counted_none, counted_same, counted_new, counted_all}
+use Rattle.valid.proofs.set_from.Goals.{then-s-i-ge1, else-s-i-ge1}
 use Rattle.valid.proofs.set_from.Goals as goal
 
 pub loop-i-init : goal.loop-i-init
@@ -12,7 +12,7 @@ pub overflow_add-n : goal.overflow_add-n
 overflow_add-n c = omega (arith, c.loop-i.invariant.low)
 
 pub loop-i-preserved : goal.loop-i-preserved
-loop-i-preserved c = ⊎_elim (λ w. search counted_new) (λ w. search counted_same) c.if-s-i-ge1.branch
+loop-i-preserved c = elim c.if-s-i-ge1.branch [ then-s-i-ge1 w ↦ search counted_new | else-s-i-ge1 w ↦ search counted_same ]
 
 pub returns : goal.returns
 returns c = search (counted_all, rules)
