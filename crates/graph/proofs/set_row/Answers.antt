@@ -1,0 +1,12 @@
+use Prim.Native.Nat.{◌-◌}
+use Rattle.graph.proofs.UnitRows.{row_none, set_row_more, row_end}
+use Rattle.graph.proofs.set_row.Goals as goal
+
+pub loop-o-init : goal.loop-o-init
+loop-o-init c = search row_none
+
+pub loop-o-preserved : goal.loop-o-preserved
+loop-o-preserved c = search set_row_more
+
+pub returns : goal.returns
+returns c = search row_end
