@@ -1,6 +1,6 @@
 use Prim.Native.Nat.{◌-◌}
 use Rattle.turns.proofs.ReadyPlaces.{all_none}
-use Rattle.turns.proofs.WalkBack.{walked_none, walked_more, closed, never_none, never_long, v_limit, v_byte, number_byte, x_limit, s_limit, part_start}
+use Rattle.turns.proofs.WalkBack.{walked_none, walked_more, closed, never_none, never_long, v_limit, v_byte, number_byte, x_limit, s_limit, part_start, part_end}
 use borrow.Author.Rules.{rules}
 use Rattle.turns.proofs.find_cycle.Goals as goal
 
@@ -30,6 +30,12 @@ overflow_sub-end c = search (rules, s_limit)
 
 pub slice_bounds-put_bytes-count : goal.slice_bounds-put_bytes-count
 slice_bounds-put_bytes-count c = search (rules, part_start)
+
+pub slice_bounds-put_bytes-start : goal.slice_bounds-put_bytes-start
+slice_bounds-put_bytes-start c = search (rules, part_start)
+
+pub slice_bounds-put_bytes-end : goal.slice_bounds-put_bytes-end
+slice_bounds-put_bytes-end c = search (rules, part_end)
 
 pub returns-then-s-ne0 : goal.returns-then-s-ne0
 returns-then-s-ne0 c = search (closed)

@@ -15,10 +15,13 @@ loop-k-init c =
 pub overflow_add-first : goal.overflow_add-first
 overflow_add-first c = omega (arith, c.loop-k-test.true)
 
+pub slice_bounds-put_block-end : goal.slice_bounds-put_block-end
+slice_bounds-put_block-end c = omega (arith, c.loop-k-test.true, c.requires.0)
+
 pub put_block-n-requires : goal.put_block-n-requires
 put_block-n-requires c =
     let t = c in
-    let l = t.before in
+    let l = t in
     let cuts = l.args.cuts.now in
     rw (block_is 128 cuts l.loop-k.k)
     (omega (arith, t.loop-k-test.true, length-take 128 (drop (l.loop-k.k * 128) cuts)), putting_left l.loop-k.invariant t.loop-k-test.true)
@@ -26,7 +29,7 @@ put_block-n-requires c =
 pub loop-k-preserved : goal.loop-k-preserved
 loop-k-preserved c =
     let t = c in
-    let l = t.before in
+    let l = t in
     let e = block_is 128 l.args.cuts.now l.loop-k.k in
     putting_next l.loop-k.invariant t.loop-k-test.true (le_refl _) (rw e at c.put_block-n.ensures)
 
