@@ -8,7 +8,7 @@ use Rattle.judge.proofs.judge.Goals as goal
 
 pub returns-then-order-lt-STEPS : goal.returns-then-order-lt-STEPS
 returns-then-order-lt-STEPS c =
-    let h : length c.args.order-1.now < step_limit = omega arith in
+    let h : length c.args.order.now < step_limit = omega arith in
     search short_order
 
 pub returns-then-cycle-lt-STEPS : goal.returns-then-cycle-lt-STEPS

@@ -13,4 +13,4 @@ pub judge_tables-requires : goal.judge_tables-requires
 judge_tables-requires c = (search book_history, search book_declared, search rules, search book_some_tables, search rules, search rules, search rules)
 
 pub returns : goal.returns
-returns c = (search book_judged, search book_named)
+returns c = record { judged_as = search book_judged; evidence_named = search book_named }

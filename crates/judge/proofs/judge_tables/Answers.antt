@@ -13,4 +13,4 @@ pub name_evidence-requires : goal.name_evidence-requires
 name_evidence-requires c = (search rules, search rules, search rules, search rules, search rules)
 
 pub returns : goal.returns
-returns c = (search tables_judged, search rules)
+returns c = record { judged_tables = search tables_judged; evidence_named_by = search rules }
