@@ -31,7 +31,7 @@ use Rattle.theory.proofs.Answered.{answer_no, refute, answer_both}
 use Rattle.theory.proofs.Lists.{count_snoc, get_or_zeros}
 use Rattle.theory.proofs.Within.{count_kept, count_left_out, project_agree}
 use Rattle.valid.specs.TakenBack.{TakenBackAgree}
-use Rattle.plain.specs.Plain.{Call, step, withdraw, take_back, taken-back, In, insert, Eligible, Refusal, MayTakeBack, undeclared, was_taken_back, IsTangled, place, PlainCall, step_refused, step_tangled, step_kept, withdraw_refused, withdraws, take_back_refused, takes_back, not_declared as plain-not-declared, was_withdrawn as plain-was-withdrawn, all_kept as plain-all-kept}
+use Rattle.plain.specs.Plain.{Call, step, withdraw, take_back, taken_back, In, insert, Eligible, Refusal, MayTakeBack, undeclared, was_taken_back, IsTangled, place, PlainCall, step_refused, step_tangled, step_kept, withdraw_refused, withdraws, take_back_refused, takes_back, not_declared as plain-not-declared, was_withdrawn as plain-was-withdrawn, all_kept as plain-all-kept}
 use Rattle.gate.specs.Gate.{book_of, state_of, Sound, opening_answer, opened_book, OpenedAs, SoundCall, CalledAs, on_sound, on_damaged}
 use Rattle.gate.specs.Inner.Calls.{EligibleIn, RefusalIn, not_declared, was_withdrawn, all_kept, EligibilityIn, StepLeft}
 use Rattle.gate.specs.declared.Gate.{Gate}
@@ -173,7 +173,7 @@ module _ (g : Gate) (r i : ℕ) (y : Sound g) (e : i ≡ r) where
 
   kept_of : (n : ℕ) (c : Contents) → n ≡ length (contents_of g.book).history → c ≡ effect (done r) (contents_of g.book) → Eligible (book_of g) (state_of g) r
       → ¬ IsTangled (book_of g) (state_of g) r
-      → PlainCall (book_of g) (state_of g) (step r) (place n) (record { kept = c.history; withdrawn = flagged 0 g.withdrawn; taken-back = flagged 0 g.taken_back })
+      → PlainCall (book_of g) (state_of g) (step r) (place n) (record { kept = c.history; withdrawn = flagged 0 g.withdrawn; taken_back = flagged 0 g.taken_back })
   kept_of n c p q o s = rw (p, q) (step_kept o s)
 
   module _ (t : Eligibility) (w : EligibilityIn g.book.declared g.book.lengths g.book.counts g.withdrawn i t) where

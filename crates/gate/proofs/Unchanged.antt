@@ -22,7 +22,7 @@ same_record g h y z e f =
     ap₂ (λ (b : Book) (w : List ℕ × List ℕ). record { book = b; withdrawn = w.0; taken_back = w.1 })
     (determined g.book h.book y.valid z.valid same-contents)
     (ap₂ (λ (v w : List ℕ). (v, w)) (same_flags g.withdrawn h.withdrawn y.withdrawn_flags z.withdrawn_flags (ap (λ (s : State). s.withdrawn) f))
-    (same_flags g.taken_back h.taken_back y.taken_back_flags z.taken_back_flags (ap (λ (s : State). s.taken-back) f)))
+    (same_flags g.taken_back h.taken_back y.taken_back_flags z.taken_back_flags (ap (λ (s : State). s.taken_back) f)))
 
 -- a refused call leaves the plain gate's state
 stays : {c : Contents} {g h : State} {x : Call} {a : Answer} (n : ℕ) → PlainCall c g x a h → a ≡ refused n → h ≡ g
