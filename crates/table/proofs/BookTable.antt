@@ -38,7 +38,7 @@ in_order_behind t (u ∷ us) o = o.1
 broken_rank : {t : Test} {ts : List Test} {n : ℕ} → InOrder (t ∷ ts) → Broken (t ∷ ts) n → rank (number t.cause) ≤ rank n
 broken_rank {t} o (at_once e) = le_refl _
 broken_rank o (later (at_once e)) = o.0
-broken_rank o (later (later b)) = le_trans o.0 (broken_rank o.1 (later b))
+broken_rank {ts = u ∷ us} o (later (later b)) = le_trans o.0 (broken_rank {t = u} {ts = us} o.1 (later b))
 
 -- the number of each test stands in the order: the first's, then that of any that fails
 first_ranked : (t : Test) (ts : List Test) → InOrder (t ∷ ts) → rank (number t.cause) < length test_order
@@ -204,20 +204,25 @@ module _ (s : List ℕ) (at : ℕ) (t : ReadState) where
   operand_fault (pair p) n (at_once e) = b_above_15 {p = p} (omega (arith, ltb-false))
   operand_fault (pair p) n (later (at_once e)) = a_above_b (leb-false _ _ e)
   operand_fault (pair p) n (later (later (at_once e))) = let r = pairs_from_test t.contents.pairs p e in pair_not_above r.1.0 r.1.1
+  operand_fault (pair p) n (later (later (later x13))) = elim x13 [ ]
   operand_fault (run r) n (at_once e) = not_the_count (eqb-false _ _ e)
   operand_fault (run r) n (later (at_once e)) = run_17 (ltb-false _ _ e)
+  operand_fault (run r) n (later (later x10)) = elim x10 [ ]
   operand_fault (step x) n (at_once e) = before_any_52 {x = x} (omega (arith, ltb-false))
   operand_fault (step x) n (later (at_once e)) = let r = kind_from_test x e in kind_above_15 r.1.0 r.1.1
   operand_fault (step x) n (later (later (at_once e))) = step_33_of_run (ltb-false _ _ e)
   operand_fault (step x) n (later (later (later (at_once e)))) = step_over_most (ltb-false _ _ e)
+  operand_fault (step x) n (later (later (later (later x20)))) = elim x20 [ ]
   operand_fault (cut c) n (at_once e) = cut_undeclared (ltb-false _ _ e)
   operand_fault (cut c) n (later (at_once e)) = viewer_undeclared (ltb-false _ _ e)
   operand_fault (cut c) n (later (later (at_once e))) = seen_by_itself (eqb-true _ _ (not-false _ e))
   operand_fault (cut c) n (later (later (later (at_once e)))) = after_step_0 {c = c} (omega (arith, ltb-false))
   operand_fault (cut c) n (later (later (later (later (at_once e))))) = not_below_steps (ltb-false _ _ e)
   operand_fault (cut c) n (later (later (later (later (later (at_once e)))))) = let r = cuts_from_test t.contents.cuts c e in triple_not_above r.1.0 r.1.1
+  operand_fault (cut c) n (later (later (later (later (later (later x28)))))) = elim x28 [ ]
   operand_fault (done r) n (at_once e) = done_undeclared (ltb-false _ _ e)
   operand_fault (done r) n (later (at_once e)) = no_step_left (ltb-false _ _ e)
+  operand_fault (done r) n (later (later x13)) = elim x13 [ ]
 
   broken_fault : {c : Command} {n : ℕ} → Broken (command_tests deck_rules s at t c) n → Fault s at t c n
   broken_fault {c} (at_once e) = inside_operands {c = c} (omega (arith, leb-false))
