@@ -144,13 +144,15 @@ module _ (s : List ℕ) (x y : ℕ) (r t : Answered) (w : NameCall (arcs_from x 
   yes_is_1 No = (λ e. absurd (let q : ◌≡◌ {A = ℕ} 0 1 = cc in omega arith), λ e. absurd (omega arith))
 
   deck_yes_before : ((answered_numbers t).value ≡ 1) ↔ ((answered_numbers r).value ≢ 0)
-  deck_yes_before = rw (named, tested) (
+  deck_yes_before = rw (ap (λ (k : Numbers). k.value) named, ap (λ (k : Numbers). k.value) tested) (
     λ e. (yes_before s x y w.named v.tested w.promise v.promise).0 ((yes_is_1 v.tested).1 e),
     λ e. (yes_is_1 v.tested).0 ((yes_before s x y w.named v.tested w.promise v.promise).1 e),
   )
 
   deck_refused_before : ((answered_numbers r).number ≡ (answered_numbers t).number) × ((answered_numbers r).place ≡ (answered_numbers t).place)
-  deck_refused_before = rw (named, tested) (refused_before s x y w.named v.tested w.promise v.promise)
+  deck_refused_before =
+      rw (ap (λ (k : Numbers). k.number) named, ap (λ (k : Numbers). k.place) named, ap (λ (k : Numbers). k.number) tested, ap (λ (k : Numbers). k.place) tested)
+      (refused_before s x y w.named v.tested w.promise v.promise)
 
 -- ---- cycles
 

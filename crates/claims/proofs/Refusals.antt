@@ -148,6 +148,8 @@ module _ (g : Gate) (y : Sound g) where
   row_rule (withdraw r) (row_21 z is_withdrawal d w) = (withdraw_refused (was_withdrawn d w), refl)
   row_rule (step r) (row_22 z is_step d w l) = (step_refused (all_kept d w l), refl)
   row_rule (withdraw r) (row_22 z is_withdrawal d w l) = (withdraw_refused (all_kept d w l), refl)
+  row_rule (take_back r) (row_21 z k d w) = elim k [ ]
+  row_rule (take_back r) (row_22 z k d w l) = elim k [ ]
   row_rule (step r) (row_23 z e t) = (step_tangled e t, refl)
   row_rule (take_back r) (row_32 z d w) = (take_back_refused (was_taken_back d w), refl)
   row_rule x (row_26 n) = absurd (n y)
