@@ -1,4 +1,4 @@
-// Links the proved library, target/staticlib/libcapi.a at the root of the repository (made by `rt staticlib capi`).
+// Links the proved library, target/staticlib/libcapi.a at the root of the repository (made by `./libcapi`).
 fn main() {
     let folder = std::path::Path::new(env!("CARGO_MANIFEST_DIR")).join("../target/staticlib");
     println!("cargo:rustc-link-search=native={}", folder.display());

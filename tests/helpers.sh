@@ -24,14 +24,15 @@ same() {
     fi
 }
 
-# summed LABEL COMMAND..: as many tests as the command's last line 'N passed, M failed' says; it must say one, and where none failed have the status 0
+# summed LABEL COMMAND..: as many tests as the command's last line 'N passed, M failed' says, whatever stands behind that; it must say one, and where none
+# failed have the status 0
 summed() {
     local log status n m
     log=$(mktemp)
     printf '%s:\n' "$1"
     "${@:2}" 2>&1 | tee "$log"
     status=${PIPESTATUS[0]}
-    read -r n _ m _ < <(grep -E '^[0-9]+ passed, [0-9]+ failed$' "$log" | tail -n 1)
+    read -r n _ m _ < <(grep -E '^[0-9]+ passed, [0-9]+ failed( |$)' "$log" | tail -n 1)
     rm -f "$log"
     passed=$((passed + ${n:-0}))
     failed=$((failed + ${m:-0}))

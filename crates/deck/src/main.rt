@@ -1,14 +1,32 @@
 // The program: reads a book from standard input and writes the report on it to standard output.
 #![tactic(auto)]
 
-use book::Book;
-use libc::{STDIN_FILENO, STDOUT_FILENO};
+ghost use Rattle.std.specs.Prelude.{◌≤◌, length, IfOk};
 
-fn main() {
+use book::Book;
+use std::io;
+use std::io::Read;
+
+// Reads until the buffer is full or the input ends; answers how many bytes it put to the buffer's front.
+fn read_full(input: &mut impl Read, buf: &mut [u8]) -> io::Result<usize>
+    ensures { IfOk result (λ n. n ≤ length buf.new) }
+{
+    let mut done = 0;
+    while done < buf.len() {
+        let n = input.read(&mut buf[done..])?;
+        if n == 0 {
+            break;
+        }
+        done += n;
+    }
+    Ok(done)
+}
+
+fn main(rt: HostRuntime) -> io::Result<()> {
     // One byte more than a book may have is enough to refuse it by 1.
     let mut book = [0u8; Book::LENGTH + 1];
-    let n = io::read_full(STDIN_FILENO, &mut book);
+    let n = read_full(&mut rt.stdin(), &mut book)?;
     let mut text = [0u8; report::TEXT];
     let m = report::report(&book[..n], &mut text);
-    io::write_all(STDOUT_FILENO, &text[..m]);
+    rt.write_all(&text[..m])
 }

@@ -2,67 +2,84 @@
 // A book stands there as the label's length in one byte, the label, the book's length in two bytes, high first, and the book.
 #![tactic(auto)]
 
-ghost use Rattle.std.specs.Prelude.{◌<◌, length};
+ghost use Rattle.std.specs.Prelude.{◌<◌, ◌≤◌, length, IfOk};
 
 use book::Answer;
-use libc::STDOUT_FILENO;
+use std::io;
+use std::io::Read;
 
-fn write_number(n: usize) {
-    io::print_decimal(STDOUT_FILENO, n as u64);
+fn write_number(out: &impl Print, n: usize) -> io::Result<()> {
+    print!(out; "{n}")
 }
 
-fn write_refused(number: u8, place: usize) {
-    io::write_all(STDOUT_FILENO, b": refused ");
-    write_number(book::wide(number));
-    io::write_all(STDOUT_FILENO, b" at ");
-    write_number(place);
+fn write_refused(out: &impl Print, number: u8, place: usize) -> io::Result<()> {
+    out.write_all(b": refused ")?;
+    write_number(out, book::wide(number))?;
+    out.write_all(b" at ")?;
+    write_number(out, place)
 }
 
-fn write_answer(s: &[u8]) {
+fn write_answer(out: &impl Print, s: &[u8]) -> io::Result<()> {
     let r = reader::read(s);
     let answer = r.answer;
     match answer {
         Answer::Refused(cause, place) => {
-            write_refused(book::number_of(cause), place);
+            write_refused(out, book::number_of(cause), place)?;
         }
         Answer::Accepted => {
-            io::write_all(STDOUT_FILENO, b": accepted, done ");
-            write_number(r.book.done);
+            out.write_all(b": accepted, done ")?;
+            write_number(out, r.book.done)?;
         }
     }
-    io::write_all(STDOUT_FILENO, b"\n");
+    out.write_all(b"\n")
 }
 
 // Shows the book at an offset; answers the offset behind it, or the end where no whole book is there.
-fn show(s: &[u8], at: usize) -> usize
+fn show(out: &impl Print, s: &[u8], at: usize) -> io::Result<usize>
     requires { at < length s.now }
-    ensures { at < result }
+    ensures { IfOk result (λ end. at < end) }
 {
     let label = at + 1;
     let size = label + book::wide(s[at]);
     let body = size + 2;
     if body > s.len() {
-        return s.len();
+        return Ok(s.len());
     }
     let low = size + 1;
     let end = body + book::wide(s[size]) * 256 + book::wide(s[low]);
     if end > s.len() {
-        return s.len();
+        return Ok(s.len());
     }
-    io::write_all(STDOUT_FILENO, &s[label..size]);
-    write_answer(&s[body..end]);
-    end
+    out.write_all(&s[label..size])?;
+    write_answer(out, &s[body..end])?;
+    Ok(end)
 }
 
-fn show_all(s: &[u8]) {
+fn show_all(out: &impl Print, s: &[u8]) -> io::Result<()> {
     let mut at = 0;
     while at < s.len() {
-        at = show(s, at);
+        at = show(out, s, at)?;
     }
+    Ok(())
 }
 
-fn main() {
-    let mut input = io::large_buffer();
-    let n = io::read_full(0, &mut input);
-    show_all(&input[..n]);
+// Reads until the buffer is full or the input ends; answers how many bytes it put to the buffer's front.
+fn read_full(input: &mut impl Read, buf: &mut [u8]) -> io::Result<usize>
+    ensures { IfOk result (λ n. n ≤ length buf.new) }
+{
+    let mut done = 0;
+    while done < buf.len() {
+        let n = input.read(&mut buf[done..])?;
+        if n == 0 {
+            break;
+        }
+        done += n;
+    }
+    Ok(done)
+}
+
+fn main(rt: HostRuntime) -> io::Result<()> {
+    let mut input = [0u8; 65536];
+    let n = read_full(&mut rt.stdin(), &mut input)?;
+    show_all(&rt, &input[..n])
 }
