@@ -19,6 +19,8 @@ os.chdir(top)
 NAME = re.compile(r"[A-Za-z0-9_'\u0370-\u03ff\u2080-\u2089-]+")
 DECLARED = re.compile(r"^\s*(?:(?:abbrev|unfoldable|pub|data|record|ruleset)\s+)*([A-Za-z][^\s:{}()\[\],;.`]*)(?=\s|:)[^:=`]*:")
 MODULES = {"inner": "Inner"}
+# names that only a `use` line or a local block gives
+LOCAL = """at-0 call-link conflict-by earlier-rules from-f from-o gate-demand is-a is-p is-r is-s long-cycle next-call no-calls plain-all-kept plain-not-declared plain-was-withdrawn refused-by-number same-contents take-back-call test-last to-f to-o withdraw-call yes-all""".split()
 # names whose new spelling the library has for something else
 OWN = {"bit-and": "bit_of_and", "bit-or": "bit_of_or"}
 
@@ -94,7 +96,7 @@ def moved(text):
     return text
 
 
-names = declared() - imported()
+names = (declared() | set(LOCAL)) - imported()
 texts = {}
 for p in files(".antt", ".rt"):
     old = read(p)

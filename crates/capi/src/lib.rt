@@ -6,7 +6,7 @@ ghost use Rattle.theory.specs.Relative.{RelativelySerialOrder};
 ghost use Rattle.theory.specs.Graph.{Cycle};
 ghost use Rattle.book.specs.Numbers.{refused_with, value_of, answer_numbers};
 ghost use Rattle.book.specs.Meaning.{conflict_of, unit_of, SerialHistory, RelativelyAtomicHistory, RelativelySerialHistory, ConflictSerializableHistory};
-ghost use Rattle.plain.specs.Plain.{step as step_call, withdraw as withdraw-call, take_back as take-back-call};
+ghost use Rattle.plain.specs.Plain.{step as step_call, withdraw as withdraw_call, take_back as take_back_call};
 ghost use Rattle.classes.specs.Tested.{tested_numbers};
 ghost use Rattle.names.specs.Names.{names_of};
 ghost use Rattle.evidence.specs.Named.{named_numbers};
@@ -292,7 +292,7 @@ pub extern "C" fn deck_step(g: &mut Gate, run: u8) -> Answered
 
 #[unsafe(no_mangle)]
 pub extern "C" fn deck_withdraw(g: &mut Gate, run: u8) -> Answered
-    ensures { GateCall (withdraw-call run) g.old g.new result }
+    ensures { GateCall (withdraw_call run) g.old g.new result }
 {
     let reply = gate::withdraw(g, run);
     of_call(reply)
@@ -300,7 +300,7 @@ pub extern "C" fn deck_withdraw(g: &mut Gate, run: u8) -> Answered
 
 #[unsafe(no_mangle)]
 pub extern "C" fn deck_take_back(g: &mut Gate, run: u8) -> Answered
-    ensures { GateCall (take-back-call run) g.old g.new result }
+    ensures { GateCall (take_back_call run) g.old g.new result }
 {
     let reply = gate::take_back(g, run);
     of_call(reply)

@@ -4,7 +4,7 @@
 ghost use Rattle.theory.specs.Relative.{RelativelySerialOrder};
 ghost use Rattle.theory.specs.Graph.{Cycle};
 ghost use Rattle.book.specs.Meaning.{conflict_of, unit_of, SerialHistory, RelativelyAtomicHistory, RelativelySerialHistory, ConflictSerializableHistory};
-ghost use Rattle.plain.specs.Plain.{step as step_call, withdraw as withdraw-call, take_back as take-back-call};
+ghost use Rattle.plain.specs.Plain.{step as step_call, withdraw as withdraw_call, take_back as take_back_call};
 ghost use Rattle.names.specs.Names.{names_of};
 ghost use Rattle.capi.specs.Calls.{ReadCall, TestCall, NameCall, JudgeCall, WriteCall, OpenCall, GateCall, ReplayCall, IslandsCall, IslandHistoryCall, IslandJudgeCall};
 
@@ -97,14 +97,14 @@ pub extern "C" fn deck_step(g: &mut Gate, run: u8) -> Answered
 
 #[unsafe(no_mangle)]
 pub extern "C" fn deck_withdraw(g: &mut Gate, run: u8) -> Answered
-    ensures { GateCall (withdraw-call run) g.old g.new result }
+    ensures { GateCall (withdraw_call run) g.old g.new result }
 {
     capi::deck_withdraw(g, run)
 }
 
 #[unsafe(no_mangle)]
 pub extern "C" fn deck_take_back(g: &mut Gate, run: u8) -> Answered
-    ensures { GateCall (take-back-call run) g.old g.new result }
+    ensures { GateCall (take_back_call run) g.old g.new result }
 {
     capi::deck_take_back(g, run)
 }

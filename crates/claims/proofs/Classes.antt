@@ -111,17 +111,17 @@ module _ (s : List ℕ) where
 
   nested : {S A R C P : Type 0} → S ↔ InClass SerialHistory s → A ↔ InClass RelativelyAtomicHistory s → R ↔ InClass RelativelySerialHistory s
       → C ↔ InClass ConflictSerializableHistory s → P ↔ InClass RelativelySerializableHistory s → Nested S A R C P
-  nested is-s is-a is-r is_c is-p = record {
-    serial_atomic = λ y. is-a.1 (within (λ c. serial_atomic (unit_of c) c.history) (is-s.0 y));
-    atomic_relserial = λ y. is-r.1 (within (λ c. atomic_relserial (conflict_of c) (unit_of c) c.history) (is-a.0 y));
-    relserial_passed = λ y. is-p.1 (within (λ c. relserial_serializable (conflict_of c) (unit_of c) c.history) (is-r.0 y));
-    serial_conflict = λ y. is_c.1 (within (λ c. serial_conflict (conflict_of c) c.history) (is-s.0 y));
-    conflict_passed = λ y. is-p.1 (within (λ c. conflict_relatively (conflict_of c) (unit_of c) c.history) (is_c.0 y));
+  nested is_s is_a is_r is_c is_p = record {
+    serial_atomic = λ y. is_a.1 (within (λ c. serial_atomic (unit_of c) c.history) (is_s.0 y));
+    atomic_relserial = λ y. is_r.1 (within (λ c. atomic_relserial (conflict_of c) (unit_of c) c.history) (is_a.0 y));
+    relserial_passed = λ y. is_p.1 (within (λ c. relserial_serializable (conflict_of c) (unit_of c) c.history) (is_r.0 y));
+    serial_conflict = λ y. is_c.1 (within (λ c. serial_conflict (conflict_of c) c.history) (is_s.0 y));
+    conflict_passed = λ y. is_p.1 (within (λ c. conflict_relatively (conflict_of c) (unit_of c) c.history) (is_c.0 y));
   }
 
 -- cuts play no part in the conflict, the runs and the history
 any_cuts : (s s' : List ℕ) → OtherCuts s s' → {C P : Type 0} → C ↔ InClass ConflictSerializableHistory s → P ↔ InClass RelativelySerializableHistory s' → C → P
-any_cuts s s' o is_c is-p y = is-p.1 (record {
+any_cuts s s' o is_c is_p y = is_p.1 (record {
   held = with_cuts o.held o.cuts;
   book = o.other;
   holds = conflict_relatively (conflict_of o.held) (unit o.cuts) o.held.history (class_of ConflictSerializableHistory s o.held o.book (is_c.0 y));

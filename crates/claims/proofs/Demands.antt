@@ -22,12 +22,12 @@ use Rattle.judge.specs.declared.Verdict.TheVariants.{Passed, Tangled, Refused as
 use Rattle.judge.proofs.Uncut.{bytes_passed, uncut_passed}
 use Rattle.plain.specs.Plain.{Call, Answer, place, refused, State, Refusal, not_declared, was_withdrawn, all_kept, TakeBackRefusal, undeclared, was_taken_back, PlainCall, step_refused, step_tangled, step_kept, withdraw_refused, withdraws, take_back_refused, takes_back}
 use Rattle.gate.specs.Gate.{answer_of, reply_numbers, Sound}
-use Rattle.gate.specs.Chain.{Chain, none as no-calls, link as call-link}
+use Rattle.gate.specs.Chain.{Chain, none as no_calls, link as call_link}
 use Rattle.gate.specs.declared.Gate.{Gate}
 use Rattle.gate.specs.declared.Reply.{Reply}
 use Rattle.gate.specs.declared.Reply.TheVariants.{Place, Withdrawn, TakenBack, Refused as CallRefused}
 use Rattle.gate.proofs.Records.{sound_call}
-use Rattle.gate.proofs.Chained.{demand_3 as gate-demand}
+use Rattle.gate.proofs.Chained.{demand_3 as gate_demand}
 use Rattle.capi.specs.Numbers.{answered}
 use Rattle.capi.specs.declared.Answered.{Answered}
 use Rattle.capi.specs.declared.OpenedGate.{OpenedGate}
@@ -105,7 +105,7 @@ deck_demand_2 s c e order order' cycle cycle' r a b j =
 -- ---- demand 3
 
 pub demand_3 : EveryListOfCalls
-demand_3 = gate-demand
+demand_3 = gate_demand
 
 -- ---- demand 3 of the calls for C
 
@@ -154,11 +154,11 @@ one_list (then w k) (then v l) = ap₂ ◌∷◌ (one_answer w v refl) (one_list
 
 -- the replies of the calls, from a sound record on
 replies : {g h : Gate} {xs : List Call} {ns : List Answered} → DeckChain g xs ns h → Sound g → (bs : List Answer) × Chain g xs bs h × NumbersOfAll xs bs ns
-replies none y = ([], no-calls, no_more)
+replies none y = ([], no_calls, no_more)
 replies (link {x = x} w k) y =
     let v = sound_call y w.promise in
     let t = replies k v.sound in
-    (answer_of w.reply ∷ t.0, call-link w.reply w.promise t.1, then (subst (NumbersOf x (answer_of w.reply)) (sym w.numbers) (numbers_of_reply w.reply v.plain)) t.2)
+    (answer_of w.reply ∷ t.0, call_link w.reply w.promise t.1, then (subst (NumbersOf x (answer_of w.reply)) (sym w.numbers) (numbers_of_reply w.reply v.plain)) t.2)
 
 pub deck_demand_3 : EveryListOfDeckCalls
 deck_demand_3 s c bytes e o w calls numbers g k =
@@ -167,7 +167,7 @@ deck_demand_3 s c bytes e o w calls numbers g k =
       answers = t.0;
       numbers_of = t.2;
       no_other = λ bs d. one_list d t.2;
-      demand = gate-demand s c bytes e w.opened w.promise calls t.0 g t.1;
+      demand = gate_demand s c bytes e w.opened w.promise calls t.0 g t.1;
     }
 
 -- ---- the twelve rows

@@ -7,7 +7,7 @@ use Rattle.theory.proofs.Theorem.{dec_relatively_serializable}
 use Rattle.theory.proofs.DeckLaws.{lawful}
 use Rattle.book.specs.Format.{Contents}
 use Rattle.book.specs.Meaning.{conflict_of, unit_of}
-use Rattle.plain.specs.Plain.{Call, step, withdraw, take_back, Answer, State, not_declared, was_withdrawn, all_kept, PlainCall, step_refused, step_tangled, step_kept, withdraw_refused, withdraws, PlainCalls, none as no-calls, next as next-call}
+use Rattle.plain.specs.Plain.{Call, step, withdraw, take_back, Answer, State, not_declared, was_withdrawn, all_kept, PlainCall, step_refused, step_tangled, step_kept, withdraw_refused, withdraws, PlainCalls, none as no_calls, next as next_call}
 use Rattle.plain.specs.Demand.{here, there}
 use Rattle.claims.specs.Table.{StepsOrWithdraws, is_step, is_withdrawal}
 use Rattle.claims.specs.EarlierGate.{EarlierState, EarlierCall, step_20, step_21, step_22, step_23, step_joins, withdraw_20, withdraw_21, withdraw_22, withdraw_joins, EarlierCalls, none, next, earlier_state, NoTakeBack, GateAsBefore}
@@ -59,15 +59,15 @@ module _ (c : Contents) where
 
   all_to_earlier : {g h : State} {xs : List Call} {bs : List Answer} → NoTakeBack xs → PlainCalls c g xs bs h
       → EarlierCalls c (earlier_state g) xs bs (earlier_state h) × (h.taken_back ≡ g.taken_back)
-  all_to_earlier n no-calls = (none, refl)
-  all_to_earlier n (next-call {x = x} p ps) =
+  all_to_earlier n no_calls = (none, refl)
+  all_to_earlier n (next_call {x = x} p ps) =
       let w = to_earlier (other_call x n).1 p in
       let v = all_to_earlier (λ i r k. n _ r (there k)) ps in
       (next w.0 v.0, v.1 ∙ w.1)
 
   all_from_earlier : {g k : EarlierState} {t : List ℕ} {xs : List Call} {bs : List Answer} → EarlierCalls c g xs bs k → PlainCalls c (with_taken g t) xs bs (with_taken k t)
-  all_from_earlier none = no-calls
-  all_from_earlier (next p ps) = next-call (from_earlier p) (all_from_earlier ps)
+  all_from_earlier none = no_calls
+  all_from_earlier (next p ps) = next_call (from_earlier p) (all_from_earlier ps)
 
 -- a state by its runs taken back
 same_taken : (c : Contents) (h : State) (t : List ℕ) → h.taken_back ≡ t → with_taken c (earlier_state h) t ≡ h

@@ -30,7 +30,7 @@ use Rattle.names.specs.Names.{names_value}
 use Rattle.names.specs.declared.ArcNames.{ArcNames}
 use Rattle.evidence.specs.Named.{named_numbers, OutcomeNamed, NamedAs}
 use Rattle.evidence.specs.declared.Named.{Named}
-use Rattle.plain.specs.Plain.{Call, step, withdraw, take_back, Answer, place, refused as refused-by-number, State, PlainCall, step_refused, step_tangled, step_kept, withdraw_refused, withdraws, take_back_refused, takes_back, Refusal, not_declared, was_withdrawn, all_kept, TakeBackRefusal, undeclared, was_taken_back}
+use Rattle.plain.specs.Plain.{Call, step, withdraw, take_back, Answer, place, refused as refused_by_number, State, PlainCall, step_refused, step_tangled, step_kept, withdraw_refused, withdraws, take_back_refused, takes_back, Refusal, not_declared, was_withdrawn, all_kept, TakeBackRefusal, undeclared, was_taken_back}
 use Rattle.gate.specs.Gate.{answer_of, reply_numbers, book_of, state_of, Sound, opening_answer, opened_book, OpenedAs, CalledAs, on_sound, on_damaged}
 use Rattle.replay.specs.Replay.{is_call, calls_of, bad_at, played_numbers, played_by, Replays}
 use Rattle.gate.specs.declared.Gate.{Gate}
@@ -132,7 +132,7 @@ module _ (s out out' : List ℕ) where
 
 -- ---- step, withdraw and take back
 
-refused_numbers : {n : ℕ} (a : Reply) → answer_of a ≡ refused-by-number n → ((reply_numbers a).number ≡ n) × ((reply_numbers a).place ≡ 0)
+refused_numbers : {n : ℕ} (a : Reply) → answer_of a ≡ refused_by_number n → ((reply_numbers a).number ≡ n) × ((reply_numbers a).place ≡ 0)
 refused_numbers (Place p) e = let z : ◌≡◌ {A = ℕ} 0 1 = cc in absurd (omega arith)
 refused_numbers Withdrawn e = let z : ◌≡◌ {A = ℕ} 0 1 = cc in absurd (omega arith)
 refused_numbers TakenBack e = let z : ◌≡◌ {A = ℕ} 0 1 = cc in absurd (omega arith)
@@ -140,7 +140,7 @@ refused_numbers (Refused cause) e = (cc, refl)
 
 module _ (g : Gate) (y : Sound g) where
   -- a row that applies is a rule of the plain gate
-  row_rule : (x : Call) {m at : ℕ} → GateRow g x m at → PlainCall (book_of g) (state_of g) x (refused-by-number m) (state_of g) × (at ≡ 0)
+  row_rule : (x : Call) {m at : ℕ} → GateRow g x m at → PlainCall (book_of g) (state_of g) x (refused_by_number m) (state_of g) × (at ≡ 0)
   row_rule (step r) (row_20 z d) = (step_refused (not_declared d), refl)
   row_rule (withdraw r) (row_20 z d) = (withdraw_refused (not_declared d), refl)
   row_rule (take_back r) (row_20 z d) = (take_back_refused (undeclared d), refl)
@@ -164,7 +164,7 @@ module _ (g : Gate) (y : Sound g) where
   take_back_row r (undeclared d) = row_20 y d
   take_back_row r (was_taken_back d w) = row_32 y d w
 
-  rule_row : {x : Call} {a : Answer} {h : State} (n : ℕ) → PlainCall (book_of g) (state_of g) x a h → a ≡ refused-by-number n → GateRow g x n 0
+  rule_row : {x : Call} {a : Answer} {h : State} (n : ℕ) → PlainCall (book_of g) (state_of g) x a h → a ≡ refused_by_number n → GateRow g x n 0
   rule_row {x} n (step_refused {r = r} {cause = cause} p) e = let q : number cause ≡ n = cc in subst (λ (k : ℕ). GateRow g x k 0) q (refusal_row x r refl is_step p)
   rule_row {x} n (step_tangled p t) e = let q : 23 ≡ n = cc in subst (λ (k : ℕ). GateRow g x k 0) q (row_23 y p t)
   rule_row n (step_kept p t) e = let z : ◌≡◌ {A = ℕ} 0 1 = cc in absurd (omega arith)

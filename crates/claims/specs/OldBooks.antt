@@ -10,7 +10,7 @@ use Rattle.theory.specs.Homing.{before_homing, WithoutHoming}
 use Rattle.theory.specs.Relative.{Depends}
 use Rattle.buffer.specs.Put.{Put}
 use Rattle.book.specs.Format.{Contents, Outcome, accepted, step_limit, deck_rules, read_by, read}
-use Rattle.book.specs.EarlierReader.{earlier as earlier-rules, Has54, RefusedBefore}
+use Rattle.book.specs.EarlierReader.{earlier as earlier_rules, Has54, RefusedBefore}
 use Rattle.book.specs.Meaning.{conflict_of, unit_of}
 use Rattle.book.specs.Book.{pairs_of}
 use Rattle.dependence.specs.Marks.{Marks}
@@ -137,7 +137,7 @@ BeforeHoming runs = WithoutHoming runs × WithoutTransfers runs
 
 -- the reader from before transfers
 abbrev pub read_before : List ℕ → Outcome
-read_before = read_by (earlier-rules deck_rules)
+read_before = read_by (earlier_rules deck_rules)
 
 pub record OldBooks : Type 1 where
   -- Change 4: old books without 65535 give what they gave.

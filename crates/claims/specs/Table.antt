@@ -7,7 +7,7 @@ use Rattle.theory.specs.Relative.{RelativelySerializable}
 use Rattle.theory.specs.Components.{Joined, Connected}
 use Rattle.book.specs.Format.{Contents, accepted, read, lengths}
 use Rattle.book.specs.Meaning.{conflict_of, unit_of}
-use Rattle.plain.specs.Plain.{Call, step as step_call, withdraw as withdraw-call, take_back as take-back-call, In, Eligible}
+use Rattle.plain.specs.Plain.{Call, step as step_call, withdraw as withdraw_call, take_back as take_back_call, In, Eligible}
 use Rattle.gate.specs.Gate.{book_of, state_of, Sound}
 use Rattle.gate.specs.declared.Gate.{Gate}
 use Rattle.table.specs.BookTable.{most_steps, BookRow, NoRow}
@@ -45,13 +45,13 @@ IslandJudgeRow s m order cycle = JudgeRowBy (IslandRow s m) order cycle
 -- the run that a call is for
 abbrev pub run_called : Call → ℕ
 run_called (step_call r) = r
-run_called (withdraw-call r) = r
-run_called (take-back-call r) = r
+run_called (withdraw_call r) = r
+run_called (take_back_call r) = r
 
 -- the call steps or withdraws run r
 pub data StepsOrWithdraws (r : ℕ) : Call → Type 0 where
   is_step : StepsOrWithdraws r (step_call r)
-  is_withdrawal : StepsOrWithdraws r (withdraw-call r)
+  is_withdrawal : StepsOrWithdraws r (withdraw_call r)
 
 -- step, withdraw and take back on a record: 26 comes first, then 20; then for a step or a withdrawal 21, 22 and, for a step, 23; for a take_back 32
 pub data GateRow (g : Gate) : Call → ℕ → ℕ → Type 0 where
@@ -66,7 +66,7 @@ pub data GateRow (g : Gate) : Call → ℕ → ℕ → Type 0 where
   row_23 : {r : ℕ} → Sound g → Eligible (book_of g) (state_of g) r
       → ¬ RelativelySerializable (conflict_of (book_of g)) (unit_of (book_of g)) ((state_of g).kept ++ r ∷ []) → GateRow g (step_call r) 23 0
   -- 32: run taken back already
-  row_32 : {r : ℕ} → Sound g → r < length (book_of g).runs → In r (state_of g).taken_back → GateRow g (take-back-call r) 32 0
+  row_32 : {r : ℕ} → Sound g → r < length (book_of g).runs → In r (state_of g).taken_back → GateRow g (take_back_call r) 32 0
   -- 26: a table of the record out of range, or not in agreement with another
   row_26 : {x : Call} → ¬ Sound g → GateRow g x 26 0
 

@@ -30,14 +30,14 @@ module _ (history firsts : List ℕ) (b c o : ℕ) (at_b : NumberAt history b ru
       linked_first q = answer_yes (record { interleaved = i.sound (not-false t e); linked = inl (rw (← at_b.is, ← first.is) (eqb-true (bit_at dep b x) 1 (sym test ∙ q))) })
 
       pub linked_last : m ≡ false → (y : ℕ) → NumberAt lasts (c * run_limit + o) step_limit y → (l : Bool) → l ≡ eqb (bit_at dep y b) 1 → Answers (ViolatesIn history firsts lasts dep b c) l
-      linked_last q y last l test-last = record {
-        sound = λ z. record { interleaved = i.sound (not-false t e); linked = inr (rw (← at_b.is, ← last.is) (eqb-true (bit_at dep y b) 1 (sym test-last ∙ z))) };
+      linked_last q y last l test_last = record {
+        sound = λ z. record { interleaved = i.sound (not-false t e); linked = inr (rw (← at_b.is, ← last.is) (eqb-true (bit_at dep y b) 1 (sym test_last ∙ z))) };
         complete = λ v. go v.linked;
       }
         where
           go : LinkedIn history firsts lasts dep b c → l ≡ true
           go (inl z) = let k : bit_at dep b x ≡ 1 = rw (first.is, at_b.is) z in absurd (false_true (sym q ∙ test ∙ eq-eqb (bit_at dep b x) 1 k))
-          go (inr z) = let k : bit_at dep y b ≡ 1 = rw (last.is, at_b.is) z in test-last ∙ eq-eqb (bit_at dep y b) 1 k
+          go (inr z) = let k : bit_at dep y b ≡ 1 = rw (last.is, at_b.is) z in test_last ∙ eq-eqb (bit_at dep y b) 1 k
 
 pub not_interleaved : (history firsts lasts dep : List ℕ) (b c : ℕ) (t : Bool) → Answers (InterleavedIn history firsts b c) t → not t ≡ true → Answers (ViolatesIn history firsts lasts dep b c) false
 not_interleaved history firsts lasts dep b c t i e = answer_no (λ v. refute i (not-true t e) v.interleaved)

@@ -36,13 +36,13 @@ module _ (a : Answer) (b : Book) (r : Judgement) where
 
   pub accepted_answered : (order order' cycle cycle' : List ℕ) → step_limit ≤ length order → step_limit ≤ length cycle → a ≡ Accepted
       → JudgedAs (conflict_of (contents_of b)) (unit_of (contents_of b)) (contents_of b).history order order' cycle cycle' r.verdict r.count → OutcomeAnswered (outcome_by a b) r
-  accepted_answered order order' cycle cycle' long_order long-cycle e j = rw e (record {
+  accepted_answered order order' cycle cycle' long_order long_cycle e j = rw e (record {
     order = order;
     order' = order';
     cycle = cycle;
     cycle' = cycle';
     order_long = long_order;
-    cycle_long = long-cycle;
+    cycle_long = long_cycle;
     promise = j;
   })
 

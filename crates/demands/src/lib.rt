@@ -6,7 +6,7 @@
 #![tactic(auto)]
 
 ghost use Rattle.book.specs.Book.{Valid, as_step, outcome_by};
-ghost use Rattle.plain.specs.Plain.{step as step_call, withdraw as withdraw-call, take_back as take-back-call};
+ghost use Rattle.plain.specs.Plain.{step as step_call, withdraw as withdraw_call, take_back as take_back_call};
 ghost use Rattle.capi.specs.Calls.{GateCall};
 ghost use Rattle.demands.specs.Results.{BookRefusals, JudgeRefusals, WriteRefusals, ReplayRefusals, TextRefusals, GateRefusals, Demand2Of, Demand3Of, NestedAnswers, NestedDeckAnswers, NestedText, ArcsNamed, TextLettered, StepFed, TakenBackAs, IslandRefusals, IslandJudgeRefusals, VerdictsOf, WholeByIslands};
 ghost use Rattle.claims.specs.Islands.{DeckIslandAnswered};
@@ -94,7 +94,7 @@ fn after_deck_step(g: Gate, run: u8) -> DeckCalled
 
 // `deck_withdraw`, for a caller that holds the record by value.
 fn after_deck_withdraw(g: Gate, run: u8) -> DeckCalled
-    ensures { GateCall (withdraw-call run) g result.gate result.answer }
+    ensures { GateCall (withdraw_call run) g result.gate result.answer }
 {
     let mut h = g;
     let answer = capi::deck_withdraw(&mut h, run);
@@ -103,7 +103,7 @@ fn after_deck_withdraw(g: Gate, run: u8) -> DeckCalled
 
 // `deck_take_back`, for a caller that holds the record by value.
 fn after_deck_take_back(g: Gate, run: u8) -> DeckCalled
-    ensures { GateCall (take-back-call run) g result.gate result.answer }
+    ensures { GateCall (take_back_call run) g result.gate result.answer }
 {
     let mut h = g;
     let answer = capi::deck_take_back(&mut h, run);

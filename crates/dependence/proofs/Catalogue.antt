@@ -328,25 +328,25 @@ module _ (t v : List ℕ) (x : Touch) (m : List ℕ) (f : Finds (TouchConflicts 
 
 -- the places of either of two rows of columns
 module _ (P Q O : List Pair → ℕ → Step → Type 0) (t v m u : List ℕ) (f : ℕ → ℕ) (f_lt : (c : ℕ) → f c < 2) (s : Replaced m u 0 (union (bit_at m 0) f)) (w : StepFinds P t v m)
-    (from-f : (pairs : List Pair) (runs : List (List Step)) (h : List ℕ) → Both pairs runs h t v → (p : ℕ) → p < row_bits → f p ≡ 1 → StepHas (Q pairs) runs h p)
-    (to-f : (pairs : List Pair) (runs : List (List Step)) (h : List ℕ) → Both pairs runs h t v → (p : ℕ) → p < row_bits → StepHas (Q pairs) runs h p → f p ≡ 1)
-    (to-o : (pairs : List Pair) (r : ℕ) (y : Step) → P pairs r y ⊎ Q pairs r y → O pairs r y) (from-o : (pairs : List Pair) (r : ℕ) (y : Step) → O pairs r y → P pairs r y ⊎ Q pairs r y) where
+    (from_f : (pairs : List Pair) (runs : List (List Step)) (h : List ℕ) → Both pairs runs h t v → (p : ℕ) → p < row_bits → f p ≡ 1 → StepHas (Q pairs) runs h p)
+    (to_f : (pairs : List Pair) (runs : List (List Step)) (h : List ℕ) → Both pairs runs h t v → (p : ℕ) → p < row_bits → StepHas (Q pairs) runs h p → f p ≡ 1)
+    (to_o : (pairs : List Pair) (r : ℕ) (y : Step) → P pairs r y ⊎ Q pairs r y → O pairs r y) (from_o : (pairs : List Pair) (r : ℕ) (y : Step) → O pairs r y → P pairs r y ⊎ Q pairs r y) where
   either_finds : StepFinds O t v u
   either_finds = record {
     columns = λ pairs runs h c d. record {
       sound = λ p i b. from pairs runs h (c, d) p i (added_from m u f f_lt s p i b);
-      complete = λ p i a. added m u f f_lt s p i (to pairs runs h (c, d) p i a.inside (from-o pairs (run h p) (done_step runs h p) a.holds));
+      complete = λ p i a. added m u f f_lt s p i (to pairs runs h (c, d) p i a.inside (from_o pairs (run h p) (done_step runs h p) a.holds));
     };
   }
     where
       from : (pairs : List Pair) (runs : List (List Step)) (h : List ℕ) → Both pairs runs h t v → (p : ℕ) → p < row_bits → (bit_at m 0 p ≡ 1) ⊎ (f p ≡ 1) → StepHas (O pairs) runs h p
-      from pairs runs h c p i (inl b) = let a = (w.columns pairs runs h c.0 c.1).sound p i b in record { inside = a.inside; holds = to-o pairs (run h p) (done_step runs h p) (inl a.holds) }
-      from pairs runs h c p i (inr b) = let a = from-f pairs runs h c p i b in record { inside = a.inside; holds = to-o pairs (run h p) (done_step runs h p) (inr a.holds) }
+      from pairs runs h c p i (inl b) = let a = (w.columns pairs runs h c.0 c.1).sound p i b in record { inside = a.inside; holds = to_o pairs (run h p) (done_step runs h p) (inl a.holds) }
+      from pairs runs h c p i (inr b) = let a = from_f pairs runs h c p i b in record { inside = a.inside; holds = to_o pairs (run h p) (done_step runs h p) (inr a.holds) }
 
       to : (pairs : List Pair) (runs : List (List Step)) (h : List ℕ) → Both pairs runs h t v → (p : ℕ) → p < row_bits → p < length h
           → P pairs (run h p) (done_step runs h p) ⊎ Q pairs (run h p) (done_step runs h p) → (bit_at m 0 p ≡ 1) ⊎ (f p ≡ 1)
       to pairs runs h c p i j (inl a) = inl ((w.columns pairs runs h c.0 c.1).complete p i (record { inside = j; holds = a }))
-      to pairs runs h c p i j (inr a) = inr (to-f pairs runs h c p i (record { inside = j; holds = a }))
+      to pairs runs h c p i j (inr a) = inr (to_f pairs runs h c p i (record { inside = j; holds = a }))
 
 pub transfer_finds : (t v m n u : List ℕ) (x x' : Touch) → StepFinds (ConflictsWith (single x)) t v m → StepFinds (ConflictsWith (single x')) t v n
     → Replaced m u 0 (union (bit_at m 0) (bit_at n 0)) → StepFinds (ConflictsWith (transfer x x')) t v u

@@ -221,7 +221,7 @@ module _ (history : List ℕ) (n : ℕ) where
         back = ap (place_of H (get_or l a 0)) ordinal_a ∙ ap (λ (s : ℕ). place_of H s (ordinal H q)) (sym run_q) ∙ place_of_back H q inside
 
         pub agreed_more : (r : Bool) → Subset (bit_at dep q) (bit_at taken 0) r → not r ≡ false → (taken' : List ℕ) → Marked taken taken' 0 q → AgreedUpTo dep l taken' (a + 1)
-        agreed_more r s yes-all taken' m = record {
+        agreed_more r s yes_all taken' m = record {
           places = rw snoc (taken_added (omega (arith, history_length w, w.within)) u.places m (λ p j. taken_next H (take a l) q p next j));
           within = λ r. rw snoc (within_next H (take a l) q next u.within r);
           after = λ conflict marks k x j d. later conflict marks k x d (below_suc (rw (← add-one a) j));
@@ -239,7 +239,7 @@ module _ (history : List ℕ) (n : ℕ) where
                 let f : Depends conflict H x (at l H a) = rw (← e) d in
                 let g : Depends conflict H x q = rw back at f in
                 let j : x < length H = omega (arith, dep_lt conflict g, dep_inside conflict g) in
-                rw e (u.places.sound x j (s.sound (not-false r yes-all) x (small x j) (marks.complete x q (small x j) (small q inside) g)))
+                rw e (u.places.sound x j (s.sound (not-false r yes_all) x (small x j) (marks.complete x q (small x j) (small q inside) g)))
 
         pub not_after : (r : Bool) → Subset (bit_at dep q) (bit_at taken 0) r → not r ≡ true → EquivalentBy history n dep l false
         not_after r s not_all = record { answers = λ conflict marks. answer_no (λ e. false_true (sym (not-true r not_all) ∙ s.complete (λ x j b. go conflict marks e x j b))) }

@@ -5,7 +5,7 @@ use mathlib.Core.Path.{◌≡◌, refl, subst, ap, ◌∙◌}
 use mathlib.Core.List.{List, [], ◌∷◌, ◌++◌}
 use lib.ListN.{length}
 use Rattle.book.specs.Format.{Bytes, Contents, accepted, read, with_history}
-use Rattle.plain.specs.Plain.{Call, Answer, newly_opened, PlainCalls, PlainCall, none as no-calls, next as next-call}
+use Rattle.plain.specs.Plain.{Call, Answer, newly_opened, PlainCalls, PlainCall, none as no_calls, next as next_call}
 use Rattle.plain.specs.Demand.{Demand3}
 use Rattle.gate.specs.Gate.{answer_of, book_of, state_of, opened_book, Sound, OpenedAs, CalledAs}
 use Rattle.gate.specs.Chain.{Chain, none, link}
@@ -18,11 +18,11 @@ use Rattle.plain.proofs.Demand.{plain_demand}
 
 -- from a sound record on, each call is the plain gate's and leaves a sound record
 chain_plain : (c : Contents) {g h : Gate} {xs : List Call} {bs : List Answer} → Chain g xs bs h → Sound g → book_of g ≡ with_history c [] → PlainCalls c (state_of g) xs bs (state_of h)
-chain_plain c none y e = no-calls
+chain_plain c none y e = no_calls
 chain_plain c {g} (link {h = h} {x = x} a w k) y e =
     let v = sound_call y w in
     let p = subst (λ b. PlainCall b (state_of g) x (answer_of a) (state_of h)) e v.plain in
-    next-call (call_history c [] p) (chain_plain c k v.sound (v.book ∙ e))
+    next_call (call_history c [] p) (chain_plain c k v.sound (v.book ∙ e))
 
 pub chain_book : {g h : Gate} {xs : List Call} {bs : List Answer} → Chain g xs bs h → Sound g → book_of h ≡ book_of g
 chain_book none y = refl

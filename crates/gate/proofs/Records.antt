@@ -31,7 +31,7 @@ use Rattle.theory.proofs.Answered.{answer_no, refute, answer_both}
 use Rattle.theory.proofs.Lists.{count_snoc, get_or_zeros}
 use Rattle.theory.proofs.Within.{count_kept, count_left_out, project_agree}
 use Rattle.valid.specs.TakenBack.{TakenBackAgree}
-use Rattle.plain.specs.Plain.{Call, step, withdraw, take_back, taken_back, In, insert, Eligible, Refusal, MayTakeBack, undeclared, was_taken_back, IsTangled, place, PlainCall, step_refused, step_tangled, step_kept, withdraw_refused, withdraws, take_back_refused, takes_back, not_declared as plain-not-declared, was_withdrawn as plain-was-withdrawn, all_kept as plain-all-kept}
+use Rattle.plain.specs.Plain.{Call, step, withdraw, take_back, taken_back, In, insert, Eligible, Refusal, MayTakeBack, undeclared, was_taken_back, IsTangled, place, PlainCall, step_refused, step_tangled, step_kept, withdraw_refused, withdraws, take_back_refused, takes_back, not_declared as plain_not_declared, was_withdrawn as plain_was_withdrawn, all_kept as plain_all_kept}
 use Rattle.gate.specs.Gate.{book_of, state_of, Sound, opening_answer, opened_book, OpenedAs, SoundCall, CalledAs, on_sound, on_damaged}
 use Rattle.gate.specs.Inner.Calls.{EligibleIn, RefusalIn, not_declared, was_withdrawn, all_kept, EligibilityIn, StepLeft}
 use Rattle.gate.specs.declared.Gate.{Gate}
@@ -159,9 +159,9 @@ module _ (g : Gate) (r i : ℕ) (y : Sound g) (e : i ≡ r) where
 
   -- 20, 21 and 22 read off the record's tables are the plain gate's
   refusal_of : {cause : Cause} → RefusalIn g.book.declared g.book.lengths g.book.counts g.withdrawn i cause → Refusal (book_of g) (state_of g) r cause
-  refusal_of (not_declared h) = plain-not-declared (rw (runs_are g.book y.valid) (omega arith))
-  refusal_of (was_withdrawn h n) = plain-was-withdrawn (declared_in h) (flagged_in g.withdrawn r (rw e at n))
-  refusal_of (all_kept h z l) = plain-all-kept (declared_in h) (flagged_out g.withdrawn r (rw e at z))
+  refusal_of (not_declared h) = plain_not_declared (rw (runs_are g.book y.valid) (omega arith))
+  refusal_of (was_withdrawn h n) = plain_was_withdrawn (declared_in h) (flagged_in g.withdrawn r (rw e at n))
+  refusal_of (all_kept h z l) = plain_all_kept (declared_in h) (flagged_out g.withdrawn r (rw e at z))
       (rw (length_is g.book y.valid r, count_is g.book y.valid r) (rw e at l))
 
   eligible_of : EligibleIn g.book.declared g.book.lengths g.book.counts g.withdrawn i → Eligible (book_of g) (state_of g) r

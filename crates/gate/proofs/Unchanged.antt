@@ -17,10 +17,10 @@ use Rattle.gate.specs.declared.Reply.TheVariants.{Refused}
 
 pub same_record : (g h : Gate) → Sound g → Sound h → book_of g ≡ book_of h → state_of g ≡ state_of h → g ≡ h
 same_record g h y z e f =
-    let same-contents : contents_of g.book ≡ contents_of h.book = ap₂ with_history e (ap (λ (s : State). s.kept) f) in
+    let same_contents : contents_of g.book ≡ contents_of h.book = ap₂ with_history e (ap (λ (s : State). s.kept) f) in
     let same_flags : (v w : List ℕ) → Flags run_limit v → Flags run_limit w → flagged 0 v ≡ flagged 0 w → v ≡ w = λ v w p q e. flags_same 0 v w (p.long ∙ sym q.long) p.small q.small e in
     ap₂ (λ (b : Book) (w : List ℕ × List ℕ). record { book = b; withdrawn = w.0; taken_back = w.1 })
-    (determined g.book h.book y.valid z.valid same-contents)
+    (determined g.book h.book y.valid z.valid same_contents)
     (ap₂ (λ (v w : List ℕ). (v, w)) (same_flags g.withdrawn h.withdrawn y.withdrawn_flags z.withdrawn_flags (ap (λ (s : State). s.withdrawn) f))
     (same_flags g.taken_back h.taken_back y.taken_back_flags z.taken_back_flags (ap (λ (s : State). s.taken_back) f)))
 

@@ -5,7 +5,7 @@ ghost use Rattle.std.specs.Prelude.{◌≤◌};
 ghost use Rattle.theory.specs.Answers.{Answers};
 ghost use Rattle.book.specs.Format.{run_limit, done, effect, read};
 ghost use Rattle.book.specs.Book.{Represents, contents_of};
-ghost use Rattle.plain.specs.Plain.{step as step_call, withdraw as withdraw-call, take_back as take-back-call};
+ghost use Rattle.plain.specs.Plain.{step as step_call, withdraw as withdraw_call, take_back as take_back_call};
 ghost use Rattle.gate.specs.Gate.{Sound, SoundCall, OpenedAs, CalledAs};
 ghost use Rattle.gate.specs.Inner.Calls.{EligibilityIn, StepLeft};
 
@@ -160,7 +160,7 @@ fn step_sound(g: Gate, r: u8) -> Called
 // Withdraw r on a sound record.
 fn withdraw_sound(g: Gate, r: u8) -> Called
     requires { Sound g }
-    ensures { SoundCall g (withdraw-call r) result.answer result.gate }
+    ensures { SoundCall g (withdraw_call r) result.answer result.gate }
 {
     let b = g.book;
     let withdrawn = g.withdrawn;
@@ -191,7 +191,7 @@ fn withdraw_sound(g: Gate, r: u8) -> Called
 // Take back r on a sound record.
 fn take_back_sound(g: Gate, r: u8) -> Called
     requires { Sound g }
-    ensures { SoundCall g (take-back-call r) result.answer result.gate }
+    ensures { SoundCall g (take_back_call r) result.answer result.gate }
 {
     let b = g.book;
     let mut withdrawn = g.withdrawn;
@@ -239,7 +239,7 @@ fn step_value(g: Gate, r: u8) -> Called
 
 // Withdraw r on a record by value.
 fn withdraw_value(g: Gate, r: u8) -> Called
-    ensures { CalledAs g (withdraw-call r) result.answer result.gate }
+    ensures { CalledAs g (withdraw_call r) result.answer result.gate }
 {
     if is_sound(g) {
         return withdraw_sound(g, r);
@@ -252,7 +252,7 @@ fn withdraw_value(g: Gate, r: u8) -> Called
 
 // Take back r on a record by value.
 fn take_back_value(g: Gate, r: u8) -> Called
-    ensures { CalledAs g (take-back-call r) result.answer result.gate }
+    ensures { CalledAs g (take_back_call r) result.answer result.gate }
 {
     if is_sound(g) {
         return take_back_sound(g, r);
@@ -275,7 +275,7 @@ pub fn step(g: &mut Gate, r: u8) -> Reply
 
 // Withdraw r: refused by 26 where the record is not sound, then by 20, 21, 22 in that order; else r is withdrawn, and the kept list stays.
 pub fn withdraw(g: &mut Gate, r: u8) -> Reply
-    ensures { CalledAs g.old (withdraw-call r) result g.new }
+    ensures { CalledAs g.old (withdraw_call r) result g.new }
 {
     let called = withdraw_value(*g, r);
     *g = called.gate;
@@ -285,7 +285,7 @@ pub fn withdraw(g: &mut Gate, r: u8) -> Reply
 // Take back r: refused by 26 where the record is not sound, then by 20, 32 in that order; else r's steps leave the kept list, the others stay in order, and
 // r is withdrawn.
 pub fn take_back(g: &mut Gate, r: u8) -> Reply
-    ensures { CalledAs g.old (take-back-call r) result g.new }
+    ensures { CalledAs g.old (take_back_call r) result g.new }
 {
     let called = take_back_value(*g, r);
     *g = called.gate;
@@ -303,7 +303,7 @@ pub fn after_step(g: Gate, r: u8) -> Called
 
 // `withdraw`, for a caller that holds the record by value.
 pub fn after_withdraw(g: Gate, r: u8) -> Called
-    ensures { CalledAs g (withdraw-call r) result.answer result.gate }
+    ensures { CalledAs g (withdraw_call r) result.answer result.gate }
 {
     let mut h = g;
     let answer = withdraw(&mut h, r);
@@ -312,7 +312,7 @@ pub fn after_withdraw(g: Gate, r: u8) -> Called
 
 // `take_back`, for a caller that holds the record by value.
 pub fn after_take_back(g: Gate, r: u8) -> Called
-    ensures { CalledAs g (take-back-call r) result.answer result.gate }
+    ensures { CalledAs g (take_back_call r) result.answer result.gate }
 {
     let mut h = g;
     let answer = take_back(&mut h, r);

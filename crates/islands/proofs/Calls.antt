@@ -129,10 +129,10 @@ module _ (s : List ℕ) (d : Reading) (w : ReadAs (read s) d) where
   history_accepted m e r f = record { history = subst (λ (o : Outcome). OutcomeHistory o m r) (read_as Accepted e) f }
 
   -- the buffers are long enough
-  module _ (m : ℕ) (order order' cycle cycle' : List ℕ) (long_order : step_limit ≤ length order) (long-cycle : step_limit ≤ length cycle) where
+  module _ (m : ℕ) (order order' cycle cycle' : List ℕ) (long_order : step_limit ≤ length order) (long_cycle : step_limit ≤ length cycle) where
     by_reading : (a : Answer) → d.answer ≡ a → (r : Judgement) → OutcomePart order order' cycle cycle' (outcome_by a d.book) m r → IslandJudged order order' cycle cycle' s m r
     by_reading a e r j = record {
-      short = ⊎_elim (λ h. not_both h long_order) (λ h. not_both h long-cycle);
+      short = ⊎_elim (λ h. not_both h long_order) (λ h. not_both h long_cycle);
       long = λ _ _. subst (λ (o : Outcome). OutcomePart order order' cycle cycle' o m r) (read_as a e) j;
     }
 

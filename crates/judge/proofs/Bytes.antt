@@ -34,12 +34,12 @@ pub short_cycle : (s order cycle : List ℕ) (r : Judgement) → r ≡ refusal J
 short_cycle s order cycle r e h = record { short = λ _. refused_as order cycle JudgeBufferShort 0 r e; long = λ a b. not_both h b }
 
 module _ (s : List ℕ) (d : Reading) (w : ReadAs (read s) d) (order order' cycle cycle' : List ℕ) (long_order : step_limit ≤ length order)
-    (long-cycle : step_limit ≤ length cycle) where
+    (long_cycle : step_limit ≤ length cycle) where
   -- the judgement of the bytes is that of their reading
   pub by_reading : (a : Answer) → d.answer ≡ a → (r : Judgement) → OutcomeJudged order order' cycle cycle' (outcome_by a d.book) r
       → BytesJudged order order' cycle cycle' s r
   by_reading a e r j = record {
-    short = ⊎_elim (λ h. not_both h long_order) (λ h. not_both h long-cycle);
+    short = ⊎_elim (λ h. not_both h long_order) (λ h. not_both h long_cycle);
     long = λ _ _. subst (λ (o : Outcome). OutcomeJudged order order' cycle cycle' o r) (ap (λ (x : Answer). outcome_by x d.book) (sym e) ∙ w.outcome) j;
   }
 

@@ -29,11 +29,11 @@ passed_serializable conflict unit h order order' cycle cycle' Tangled count j = 
     other e = let z : ◌≡◌ {A = ℕ} 0 1 = cc in omega arith
 
 module _ (order order' cycle cycle' s : List ℕ) (r : Judgement) (j : BytesJudged order order' cycle cycle' s r)
-    (long_order : step_limit ≤ length order) (long-cycle : step_limit ≤ length cycle)
+    (long_order : step_limit ≤ length order) (long_cycle : step_limit ≤ length cycle)
     (c : Contents) (e : read s ≡ accepted c) where
   pub bytes_passed : (r.verdict ≡ Passed) ↔ RelativelySerializable (conflict_of c) (unit_of c) c.history
   bytes_passed = passed_serializable (conflict_of c) (unit_of c) c.history order order' cycle cycle' r.verdict r.count
-      (subst (λ (o : Outcome). OutcomeJudged order order' cycle cycle' o r) e (j.long long_order long-cycle))
+      (subst (λ (o : Outcome). OutcomeJudged order order' cycle cycle' o r) e (j.long long_order long_cycle))
 
   -- demand 2, last sentence
   pub uncut_passed : c.cuts ≡ [] → (r.verdict ≡ Passed) ↔ ConflictSerializable (conflict_of c) c.history

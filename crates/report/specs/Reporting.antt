@@ -14,20 +14,20 @@ use Rattle.report.specs.Text.{Verdict, passed, tangled, Findings, Report, refuse
 -- ---- what is said of a book
 
 -- by the conflict of steps on which it rests: the book's own below
-module _ (conflict-by : ℕ → ℕ → ℕ → ℕ → Bool) (c : Contents) where
+module _ (conflict_by : ℕ → ℕ → ℕ → ℕ → Bool) (c : Contents) where
   -- passed, with the order which at each turn takes the smallest place not yet taken whose arc sources are all taken; or tangled, with a cycle and the
   -- names of its arcs, as the history and the cycle have them. There is one such order (theory's `greedy_unique`)
   abbrev pub VerdictBy : Verdict → Type 0
-  VerdictBy (passed order) = RelativelySerialOrder conflict-by (unit_of c) c.history order × Greedy conflict-by (unit_of c) c.history order
+  VerdictBy (passed order) = RelativelySerialOrder conflict_by (unit_of c) c.history order × Greedy conflict_by (unit_of c) c.history order
   VerdictBy (tangled cycle names) =
-      (¬ RelativelySerializable conflict-by (unit_of c) c.history) × Cycle conflict-by (unit_of c) c.history cycle × (names ≡ cycle_names conflict-by (unit_of c) c.history cycle)
+      (¬ RelativelySerializable conflict_by (unit_of c) c.history) × Cycle conflict_by (unit_of c) c.history cycle × (names ≡ cycle_names conflict_by (unit_of c) c.history cycle)
 
   -- the four classes of an accepted book; `Is b P` says that P holds exactly where b is true
   pub record ClassesBy (serial atomic relserial conflict : Bool) : Type 0 where
     pub serial_is : Is serial (SerialHistory c)
     pub atomic_is : Is atomic (RelativelyAtomicHistory c)
-    pub relserial_is : Is relserial (RelativelySerial conflict-by (unit_of c) c.history)
-    pub conflict_is : Is conflict (ConflictSerializable conflict-by c.history)
+    pub relserial_is : Is relserial (RelativelySerial conflict_by (unit_of c) c.history)
+    pub conflict_is : Is conflict (ConflictSerializable conflict_by c.history)
 
   pub record FindingsBy (w : Findings) : Type 0 where
     pub done_is : w.done ≡ length c.history
