@@ -9,7 +9,7 @@ use lib.ListN.{length, get_or, take, replicate, get_or-append, get_or-eq_default
 use lib.Seq.{take-append_seam}
 use lib.Dec.{eqb}
 use borrow.Author.Tests.{eq-eqb, ne_eqb}
-use Rattle.theory.specs.History.{count, run}
+use Rattle.theory.specs.History.{run}
 use Rattle.theory.specs.Relative.{Lawful, RelativelySerialOrder, RelativelySerializable}
 use Rattle.theory.specs.Graph.{Cycle}
 use Rattle.theory.specs.Components.{Joined, Connected, smallest_of_each, smallest_runs, component_history}

@@ -30,7 +30,7 @@ use Rattle.names.specs.Names.{names_value}
 use Rattle.names.specs.declared.ArcNames.{ArcNames}
 use Rattle.evidence.specs.Named.{named_numbers, OutcomeNamed, NamedAs}
 use Rattle.evidence.specs.declared.Named.{Named}
-use Rattle.plain.specs.Plain.{Call, step, withdraw, take_back, Answer, place, refused as refused_by_number, State, PlainCall, step_refused, step_tangled, step_kept, withdraw_refused, withdraws, take_back_refused, takes_back, Refusal, not_declared, was_withdrawn, all_kept, TakeBackRefusal, undeclared, was_taken_back}
+use Rattle.plain.specs.Plain.{Call, step, withdraw, take_back, Answer, refused as refused_by_number, State, PlainCall, step_refused, step_tangled, step_kept, withdraw_refused, withdraws, take_back_refused, takes_back, Refusal, not_declared, was_withdrawn, all_kept, TakeBackRefusal, undeclared, was_taken_back}
 use Rattle.gate.specs.Gate.{answer_of, reply_numbers, book_of, state_of, Sound, opening_answer, opened_book, OpenedAs, CalledAs, on_sound, on_damaged}
 use Rattle.replay.specs.Replay.{is_call, calls_of, bad_at, played_numbers, played_by, Replays}
 use Rattle.gate.specs.declared.Gate.{Gate}

@@ -4,4 +4,3 @@
 // transfer, give what they gave, arcs by name, command 54, and what taking a run back does, and leaves as it was. This crate has no code; `demands` has
 // the demands, the nested classes, the names of arcs, the reading of one more step and a take-back as contracts.
 #![tactic(auto)]
-

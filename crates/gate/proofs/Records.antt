@@ -31,7 +31,7 @@ use Rattle.theory.proofs.Answered.{answer_no, refute, answer_both}
 use Rattle.theory.proofs.Lists.{count_snoc, get_or_zeros}
 use Rattle.theory.proofs.Within.{count_kept, count_left_out, project_agree}
 use Rattle.valid.specs.TakenBack.{TakenBackAgree}
-use Rattle.plain.specs.Plain.{Call, step, withdraw, take_back, taken_back, In, insert, Eligible, Refusal, MayTakeBack, undeclared, was_taken_back, IsTangled, place, PlainCall, step_refused, step_tangled, step_kept, withdraw_refused, withdraws, take_back_refused, takes_back, not_declared as plain_not_declared, was_withdrawn as plain_was_withdrawn, all_kept as plain_all_kept}
+use Rattle.plain.specs.Plain.{Call, step, withdraw, take_back, In, insert, Eligible, Refusal, MayTakeBack, undeclared, was_taken_back, IsTangled, place, PlainCall, step_refused, step_tangled, step_kept, withdraw_refused, withdraws, take_back_refused, takes_back, not_declared as plain_not_declared, was_withdrawn as plain_was_withdrawn, all_kept as plain_all_kept}
 use Rattle.gate.specs.Gate.{book_of, state_of, Sound, opening_answer, opened_book, OpenedAs, SoundCall, CalledAs, on_sound, on_damaged}
 use Rattle.gate.specs.Inner.Calls.{EligibleIn, RefusalIn, not_declared, was_withdrawn, all_kept, EligibilityIn, StepLeft}
 use Rattle.gate.specs.declared.Gate.{Gate}

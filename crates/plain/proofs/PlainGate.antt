@@ -13,7 +13,7 @@ use Rattle.theory.proofs.Places.{Compared, eq_cases}
 use Rattle.book.specs.Format.{Contents, pick, with_history}
 use Rattle.book.specs.Numbers.{number}
 use Rattle.book.specs.declared.Cause.{Cause}
-use Rattle.plain.specs.Plain.{Call, Answer, withdrawn, refused, State, In, insert, Eligible, Refusal, not_declared, was_withdrawn, all_kept, MayTakeBack, TakeBackRefusal, undeclared, was_taken_back, PlainCall, step_refused, step_tangled, step_kept, withdraw_refused, withdraws, take_back_refused, takes_back, PlainCalls, none, next}
+use Rattle.plain.specs.Plain.{Call, Answer, refused, State, In, insert, Eligible, Refusal, not_declared, was_withdrawn, all_kept, MayTakeBack, TakeBackRefusal, undeclared, was_taken_back, PlainCall, step_refused, step_tangled, step_kept, withdraw_refused, withdraws, take_back_refused, takes_back, PlainCalls, none, next}
 
 -- ---- single-valued
 

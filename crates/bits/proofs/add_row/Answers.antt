@@ -1,4 +1,4 @@
-use Prim.Native.Nat.{◌-◌, max}
+use Prim.Native.Nat.{max}
 use native.Mathlib.Omega.{arith}
 use Rattle.bits.proofs.Word.{bit_of_or}
 use Rattle.bits.proofs.Store.{replaced_none, replaced_all, combined_more, in_word}

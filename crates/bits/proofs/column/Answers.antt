@@ -1,4 +1,3 @@
-use Prim.Native.Nat.{◌-◌}
 use mathlib.Core.Path.{refl}
 use Rattle.bits.proofs.Store.{alone_none, alone_more, alone_all}
 use borrow.Author.Rules.{rules}

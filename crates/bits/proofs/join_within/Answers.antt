@@ -1,4 +1,4 @@
-use Prim.Native.Nat.{◌-◌, min, max}
+use Prim.Native.Nat.{min, max}
 use mathlib.Core.Path.{refl}
 use Rattle.bits.proofs.Word.{bit_of_and, bit_of_or}
 use native.Mathlib.Omega.{arith}

@@ -1,5 +1,4 @@
 -- The words are searched from the last down: before each turn no later word has a column of m outside the mask.
-use Prim.Native.Nat.{◌-◌}
 use Rattle.bits.specs.Table.{bit_at, difference}
 use Rattle.bits.proofs.Scan.{NoneAbove}
 use Rattle.bits.proofs.last_outside.Given as goal

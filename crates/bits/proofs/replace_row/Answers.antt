@@ -1,4 +1,3 @@
-use Prim.Native.Nat.{◌-◌}
 use native.Mathlib.Omega.{arith}
 use Rattle.bits.proofs.Store.{replaced_none, replaced_all, copied_more}
 use borrow.Author.Rules.{rules}

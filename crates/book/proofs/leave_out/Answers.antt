@@ -1,4 +1,3 @@
-use Prim.Native.Nat.{◌-◌}
 use Rattle.book.proofs.LeaveOut.{none_left_out, place_inside, flag_inside, stays_place, stays_fits, stays_next, one_left_out, one_stays, all_left_out}
 use borrow.Author.Rules.{rules}
 use Rattle.book.proofs.leave_out.Goals.{then-flags-r-eq0, else-flags-r-eq0}

@@ -1,4 +1,3 @@
-use Prim.Native.Nat.{◌-◌}
 use Rattle.book.proofs.WithHistory.{none_filled, filled_run, filled_place, filled_fits, filled_more, all_filled}
 use Rattle.book.proofs.with_history.Goals as goal
 

@@ -1,7 +1,7 @@
 -- The loop copies byte by byte: after i turns the buffer begins with the first i bytes of bs, and then has its own.
 use mathlib.Core.Path.{◌≡◌}
 use mathlib.Core.List.{◌++◌}
-use Prim.Native.Nat.{◌+◌, ◌-◌, ◌≤◌}
+use Prim.Native.Nat.{◌-◌, ◌≤◌}
 use lib.ListN.{length, take, drop}
 use Rattle.buffer.proofs.put_bytes.Given as goal
 

@@ -1,4 +1,3 @@
-use Prim.Native.Nat.{◌-◌}
 use native.Mathlib.Omega.{arith}
 use Rattle.theory.proofs.Answered.{refute}
 use Rattle.classes.proofs.Searched.{no_pair_yet, no_pair_more}

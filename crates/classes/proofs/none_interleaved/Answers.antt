@@ -1,4 +1,3 @@
-use Prim.Native.Nat.{◌-◌}
 use native.Mathlib.Omega.{arith}
 use Rattle.theory.proofs.Answered.{answer_yes, answer_no, refute}
 use Rattle.turns.proofs.ReadyPlaces.{none_yet, none_more}

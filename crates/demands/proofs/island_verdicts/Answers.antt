@@ -1,4 +1,3 @@
-use Prim.Native.Nat.{◌-◌}
 use Rattle.demands.proofs.IslandVerdicts.{verdicts_none, verdicts_more, verdicts_over, verdicts_all}
 use Rattle.demands.proofs.island_verdicts.Goals.{then-i-count, else-i-count}
 use Rattle.demands.proofs.island_verdicts.Goals as goal

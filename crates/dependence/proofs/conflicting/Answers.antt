@@ -1,4 +1,3 @@
-use Prim.Native.Nat.{◌-◌}
 use Rattle.dependence.proofs.Catalogue.{at_none, at_keep, at_all}
 use borrow.Author.Rules.{rules}
 use Rattle.dependence.proofs.conflicting.Goals as goal

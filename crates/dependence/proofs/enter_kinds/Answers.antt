@@ -1,4 +1,3 @@
-use Prim.Native.Nat.{◌-◌}
 use Rattle.dependence.proofs.Catalogue.{kinds_none, kinds_more, kinds_all}
 use borrow.Author.Rules.{rules}
 use Rattle.dependence.proofs.enter_kinds.Goals as goal

@@ -1,4 +1,3 @@
-use Prim.Native.Nat.{◌-◌}
 use Rattle.dependence.proofs.Catalogue.{parts_none, parts_more, parts_all}
 use borrow.Author.Rules.{rules}
 use Rattle.dependence.proofs.enter_parts.Goals as goal

@@ -1,4 +1,3 @@
-use Prim.Native.Nat.{◌-◌}
 use Rattle.dependence.proofs.Steps.{links_none, read_index, read_fits, links_more, links_all}
 use borrow.Author.Rules.{rules}
 use Rattle.dependence.proofs.link_steps.Goals as goal

@@ -1,4 +1,3 @@
-use Prim.Native.Nat.{◌-◌}
 use Rattle.dependence.proofs.Steps.{read_none, read_index, read_fits, read_more, read_all}
 use borrow.Author.Rules.{rules}
 use Rattle.dependence.proofs.read_steps.Goals as goal

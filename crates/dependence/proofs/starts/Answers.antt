@@ -1,4 +1,3 @@
-use Prim.Native.Nat.{◌-◌}
 use Rattle.dependence.proofs.Steps.{starts_none, starts_fit, starts_more, starts_all}
 use Rattle.dependence.proofs.starts.Goals as goal
 

@@ -1,4 +1,3 @@
-use Prim.Native.Nat.{◌-◌}
 use Rattle.evidence.proofs.CycleLaws.{too_short, too_long, walked_none, walked_all, not_followed, followed_small, walked_more}
 use borrow.Author.Rules.{rules}
 use Rattle.evidence.proofs.cycle_by.Goals as goal

@@ -1,4 +1,3 @@
-use Prim.Native.Nat.{◌-◌}
 use Rattle.bits.specs.Table.{row_words}
 use Rattle.evidence.proofs.OrderLaws.{other_length, agreed_none, agreed_all, agreed_more, no_next, not_after, next_place}
 use Rattle.evidence.proofs.equivalent_by.Goals as goal

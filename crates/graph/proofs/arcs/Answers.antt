@@ -1,4 +1,3 @@
-use Prim.Native.Nat.{◌-◌}
 use Rattle.graph.proofs.ArcMarks.{mask_input, runs_none, runs_more, runs_all}
 use borrow.Author.Rules.{rules}
 use Rattle.graph.proofs.arcs.Goals as goal

@@ -1,4 +1,3 @@
-use Prim.Native.Nat.{◌-◌}
 use Rattle.graph.proofs.ArcMarks.{places_none, places_more, places_all}
 use borrow.Author.Rules.{rules}
 use Rattle.graph.proofs.arcs_from.Goals as goal

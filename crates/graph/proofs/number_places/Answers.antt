@@ -1,4 +1,3 @@
-use Prim.Native.Nat.{◌-◌}
 use Rattle.graph.proofs.Numbering.{numbered_none, number_fits, number_index, number_more, numbered_all}
 use borrow.Author.Rules.{rules}
 use Rattle.graph.proofs.number_places.Goals as goal

@@ -1,4 +1,3 @@
-use Prim.Native.Nat.{◌-◌}
 use Rattle.graph.proofs.UnitRows.{row_none, set_row_more, row_end}
 use Rattle.graph.proofs.set_row.Goals as goal
 

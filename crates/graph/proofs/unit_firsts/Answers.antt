@@ -1,4 +1,3 @@
-use Prim.Native.Nat.{◌-◌}
 use Rattle.graph.proofs.UnitRows.{firsts_none, firsts_all, firsts_own, firsts_copy_row, first_index, first_rows, kept_none, kept_row}
 use borrow.Author.Rules.{rules}
 use Rattle.graph.proofs.unit_firsts.Goals.{then-i-eq0, else-i-eq0}

@@ -1,4 +1,3 @@
-use Prim.Native.Nat.{◌-◌}
 use Rattle.islands.proofs.Naming.{connected_none, connected_more, connected_all}
 use Rattle.islands.proofs.connect_run.Goals as goal
 

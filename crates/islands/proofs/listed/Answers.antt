@@ -1,4 +1,3 @@
-use Prim.Native.Nat.{◌-◌}
 use Rattle.islands.proofs.Listing.{listed_none, listed_room, listed_fits, listed_own, listed_other, listed_all}
 use borrow.Author.Rules.{rules}
 use Rattle.islands.proofs.listed.Goals.{then-wide-r, else-wide-r}

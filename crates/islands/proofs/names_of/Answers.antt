@@ -1,4 +1,3 @@
-use Prim.Native.Nat.{◌-◌}
 use Rattle.islands.proofs.Naming.{own_up_to, declared_few, book_names}
 use borrow.Author.Rules.{rules}
 use Rattle.islands.proofs.names_of.Goals as goal

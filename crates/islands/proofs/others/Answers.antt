@@ -1,4 +1,3 @@
-use Prim.Native.Nat.{◌-◌}
 use Rattle.islands.proofs.Listing.{flagged_none, flagged_same, flagged_other, flagged_all}
 use Rattle.islands.proofs.others.Goals.{then-names-k, else-names-k}
 use Rattle.islands.proofs.others.Goals as goal

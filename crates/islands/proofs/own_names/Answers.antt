@@ -1,4 +1,3 @@
-use Prim.Native.Nat.{◌-◌}
 use Rattle.islands.proofs.Listing.{own_none, own_fits, own_more, own_all}
 use Rattle.islands.proofs.own_names.Goals as goal
 

@@ -1,4 +1,3 @@
-use Prim.Native.Nat.{◌-◌}
 use Rattle.islands.proofs.Naming.{renamed_none, renamed_here, renamed_other, renamed_all}
 use borrow.Author.Rules.{rules}
 use Rattle.islands.proofs.renamed.Goals.{then-names-k, else-names-k}

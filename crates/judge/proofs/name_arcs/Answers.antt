@@ -1,4 +1,3 @@
-use Prim.Native.Nat.{◌-◌}
 use Rattle.judge.proofs.NamedCycles.{named_none, named_more, named_all}
 use Rattle.judge.proofs.name_arcs.Goals as goal
 

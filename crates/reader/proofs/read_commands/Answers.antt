@@ -1,4 +1,3 @@
-use Prim.Native.Nat.{◌-◌}
 use Rattle.reader.proofs.Loop.{begins, stands, pair_low, pair_again, pair_less, cut_low, cut_again, cut_less, run_low, run_again, run_less, step_declared, step_run, step_few, step_short, step_fits, step_again, step_less, done_run, done_low, done_fits, done_again, done_less, ends_refused, ends_accepted}
 use Rattle.reader.proofs.read_commands.Goals as goal
 

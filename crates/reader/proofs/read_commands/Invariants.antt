@@ -4,7 +4,6 @@
 use lib.ListN.{length}
 use Prim.Native.Nat.{◌-◌}
 use Rattle.reader.proofs.Loop.{Rest}
-use borrow.Author.Rules.{rules}
 use Rattle.reader.proofs.read_commands.Given as goal
 
 abbrev pub invariant-loop-index : goal.invariant-loop-index

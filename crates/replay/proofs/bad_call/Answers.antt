@@ -1,4 +1,3 @@
-use Prim.Native.Nat.{◌-◌}
 use Rattle.replay.proofs.CallBytes.{scan_start, scan_short, scan_bad, scan_next, scan_end}
 use Rattle.replay.proofs.bad_call.Goals as goal
 

@@ -1,4 +1,3 @@
-use Prim.Native.Nat.{◌-◌}
 use Rattle.replay.proofs.CallBytes.{answer_low}
 use Rattle.replay.proofs.Replays.{round_start, second_inside, round_again, round_end}
 use Rattle.replay.proofs.play.Goals as goal

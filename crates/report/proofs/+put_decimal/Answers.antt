@@ -1,7 +1,7 @@
 -- A number below ten is its one digit; of any other, the digits of its tenth come first, and the last digit behind them.
 use mathlib.Core.Path.{sym}
 use mathlib.Core.List.{[], ◌∷◌}
-use Prim.Native.Nat.{◌≤◌, ◌%◌}
+use Prim.Native.Nat.{◌%◌}
 use native.Mathlib.Omega.{arith}
 use Rattle.report.specs.Letters.{digit}
 use Rattle.buffer.proofs.PutLaws.{behind, room_behind, put_is}

@@ -1,4 +1,3 @@
-use Prim.Native.Nat.{◌-◌}
 use Rattle.turns.proofs.ReadyPlaces.{all_none}
 use Rattle.turns.proofs.WalkBack.{walked_none, walked_more, closed, never_none, never_long, v_limit, v_byte, number_byte, x_limit, s_limit, part_start, part_end}
 use borrow.Author.Rules.{rules}

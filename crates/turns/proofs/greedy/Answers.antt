@@ -1,4 +1,3 @@
-use Prim.Native.Nat.{◌-◌}
 use Rattle.turns.proofs.GreedyTurns.{turns_none, turns_more, turns_stuck, turns_all, first_in, below_more}
 use borrow.Author.Rules.{rules}
 use Rattle.turns.proofs.greedy.Goals as goal

@@ -1,4 +1,3 @@
-use Prim.Native.Nat.{◌-◌}
 use Rattle.turns.proofs.ReadyPlaces.{taken_none, ready_more, first_at, first_none}
 use borrow.Author.Rules.{rules}
 use Rattle.turns.proofs.ready.Goals as goal

@@ -1,4 +1,3 @@
-use Prim.Native.Nat.{◌-◌}
 use Rattle.turns.proofs.ReadyPlaces.{all_more, untaken_at, untaken_none}
 use borrow.Author.Rules.{rules}
 use Rattle.turns.proofs.untaken.Goals as goal

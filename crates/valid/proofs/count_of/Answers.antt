@@ -1,4 +1,3 @@
-use Prim.Native.Nat.{◌-◌}
 use Rattle.valid.proofs.Scans.{count_none, count_one, count_other, count_all}
 use Rattle.valid.proofs.count_of.Goals.{then-s-i, else-s-i}
 use Rattle.valid.proofs.count_of.Goals as goal

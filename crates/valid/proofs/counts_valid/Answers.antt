@@ -1,4 +1,3 @@
-use Prim.Native.Nat.{◌-◌}
 use Rattle.valid.proofs.Scans.{counts_none, counts_more, counts_differ, counts_above, counts_all}
 use Rattle.valid.proofs.counts_valid.Goals as goal
 

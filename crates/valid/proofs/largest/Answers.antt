@@ -1,4 +1,3 @@
-use Prim.Native.Nat.{◌-◌}
 use Rattle.valid.proofs.Scans.{largest_none, largest_same, largest_new, largest_all}
 use Rattle.valid.proofs.largest.Goals.{then-m-x, else-m-x}
 use Rattle.valid.proofs.largest.Goals as goal

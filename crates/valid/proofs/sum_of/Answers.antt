@@ -1,4 +1,3 @@
-use Prim.Native.Nat.{◌-◌}
 use Rattle.valid.proofs.Scans.{sum_none, sum_more, sum_all}
 use Rattle.valid.proofs.sum_of.Goals as goal
 

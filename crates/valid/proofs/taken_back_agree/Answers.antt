@@ -1,4 +1,3 @@
-use Prim.Native.Nat.{◌-◌}
 use Rattle.valid.proofs.Scans.{agree_none, agree_more, not_taken_back, agree_all, not_withdrawn, step_kept_of_it}
 use Rattle.valid.proofs.taken_back_agree.Goals.{then-taken_back-r-ne0+else-withdrawn-r-eq0+else-counts-r-ne0, else-taken_back-r-ne0}
 use Rattle.valid.proofs.taken_back_agree.Goals as goal
