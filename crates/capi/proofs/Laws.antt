@@ -1,6 +1,6 @@
 -- The numbers of an answer, by the case that it is.
 use Prim.Native.Nat.{ℕ}
-use mathlib.Core.Path.{◌≡◌, sym, ◌∙◌}
+use mathlib.Core.Path.{◌≡◌, refl, sym, ◌∙◌}
 use mathlib.Core.List.{List}
 use Rattle.book.specs.Numbers.{number, refused_with, value_of, answer_numbers}
 use Rattle.book.specs.Format.{read, refused, accepted}
@@ -19,7 +19,7 @@ use Rattle.evidence.specs.declared.Named.{Named}
 use Rattle.evidence.specs.declared.Named.TheVariants.{Arcs}
 use Rattle.writer.specs.Written.{written_numbers}
 use Rattle.writer.specs.declared.Written.{Written}
-use Rattle.gate.specs.Gate.{reply_numbers, OpenedAs}
+use Rattle.gate.specs.Gate.{reply_numbers, opening_numbers, OpenedAs}
 use Rattle.replay.specs.Replay.{played_numbers}
 use Rattle.gate.specs.declared.Opened.{Opened}
 use Rattle.gate.specs.declared.Reply.{Reply}
@@ -60,9 +60,14 @@ played_is played x r e f = rw e f
 pub answer_is : (answer x : Answer) (r : Answered) → answer ≡ x → r ≡ answered (answer_numbers x) → r ≡ answered (answer_numbers answer)
 answer_is answer x r e f = rw e f
 
+-- an opening's answer is a book's
+same_numbers : (answer : Answer) → opening_numbers answer ≡ answer_numbers answer
+same_numbers (Refused cause at) = refl
+same_numbers Accepted = refl
+
 -- what is handed back beside the numbers of an answer
 pub opened_with : (s : List ℕ) (o : Opened) → OpenedAs (read s) o → (n : Answered) → n ≡ answered (answer_numbers o.answer) → OpenCall s (record { number = n.number; place = n.place; gate = o.gate })
-opened_with s o w n e = record { opened = o; promise = w; numbers = rw e }
+opened_with s o w n e = record { opened = o; promise = w; numbers = rw (e, ← same_numbers o.answer) }
 
 pub islands_with : (s : List ℕ) (x : IslandList) → IslandsListed s x → (n : Answered) → n ≡ answered (answer_numbers x.answer)
     → IslandsCall s (record { number = n.number; place = n.place; runs = x.runs; count = x.count; smallest = x.smallest; list = x.list })

@@ -8,7 +8,7 @@ use Rattle.names.specs.declared.ArcNames.{ArcNames}
 use Rattle.evidence.specs.Named.{named_numbers, NamedAs}
 use Rattle.evidence.specs.declared.Named.{Named}
 use Rattle.plain.specs.Plain.{Call}
-use Rattle.gate.specs.Gate.{reply_numbers, OpenedAs, CalledAs}
+use Rattle.gate.specs.Gate.{reply_numbers, opening_numbers, OpenedAs, CalledAs}
 use Rattle.replay.specs.Replay.{played_numbers, Replays}
 use Rattle.gate.specs.declared.Gate.{Gate}
 use Rattle.gate.specs.declared.Opened.{Opened}
@@ -56,7 +56,7 @@ pub record WriteCall (s before after : List ℕ) (r : Answered) : Type 0 where
 pub record OpenCall (s : List ℕ) (r : OpenedGate) : Type 0 where
   pub opened : Opened
   pub promise : OpenedAs (read s) opened
-  pub numbers : r ≡ opened_gate (answer_numbers opened.answer) opened.gate
+  pub numbers : r ≡ opened_gate (opening_numbers opened.answer) opened.gate
 
 -- of the record at entry and at exit
 pub record GateCall (x : Call) (g h : Gate) (r : Answered) : Type 0 where

@@ -16,7 +16,6 @@ use Rattle.theory.specs.Graph.{Greedy}
 use Rattle.theory.specs.Rows.{Is}
 use Rattle.theory.proofs.Places.{order_length}
 use Rattle.theory.proofs.Greedy.{greedy_unique}
-use Rattle.book.specs.Numbers.{answer_numbers}
 use Rattle.book.specs.Format.{Contents, Outcome, refused, accepted, kind_limit, step_limit, read}
 use Rattle.book.specs.Meaning.{conflict_of, unit_of}
 use Rattle.book.specs.Book.{Valid, pairs_of, outcome_by, ReadAs}
@@ -45,7 +44,7 @@ use Rattle.evidence.specs.declared.Named.{Named}
 use Rattle.writer.specs.Written.{written_numbers}
 use Rattle.writer.specs.declared.Written.{Written}
 use Rattle.plain.specs.Plain.{Call, Answer, place, withdrawn, taken_back, refused as refused_by}
-use Rattle.gate.specs.Gate.{answer_of, reply_numbers, book_of, state_of, OpenedAs, CalledAs, on_sound, on_damaged}
+use Rattle.gate.specs.Gate.{answer_of, reply_numbers, opening_numbers, book_of, state_of, OpenedAs, CalledAs, on_sound, on_damaged}
 use Rattle.replay.specs.Replay.{played_numbers, played_by, Replays}
 use Rattle.gate.specs.declared.Gate.{Gate}
 use Rattle.gate.specs.declared.Opened.{Opened}
@@ -61,7 +60,7 @@ use Rattle.report.specs.Reporting.{VerdictOn, FindingsOn, ReportOn}
 use Rattle.capi.specs.Numbers.{answered, judged, opened_gate, listed_islands, listed_steps}
 use Rattle.capi.specs.declared.Judged.{Judged}
 use Rattle.claims.specs.Demands.{judged_numbers}
-use Rattle.claims.specs.Determined.{AtMostOne, AtMostOnePair, EqualButCycle, verdict_alone, without_cycle, cycle_in, cycle_of, SameBits, FromBlank, Determined}
+use Rattle.claims.specs.Determined.{AtMostOne, AtMostOnePair, EqualButCycle, verdict_alone, without_cycle, cycle_in, cycle_of, SameBits, FromBlank, Determined, IslandsDetermined}
 use Rattle.islands.specs.Islands.{Smallest, island_book, island_list, OutcomeListed, island_steps, OutcomeHistory, OutcomePart, IslandJudged}
 use Rattle.claims.proofs.IslandNames.{dec_smallest, one_name_each, same_smallest, same_book}
 use Rattle.claims.proofs.OnePass.{all_read}
@@ -413,10 +412,6 @@ all_determined = record {
   reading = one_reading;
   judging = λ s order order' order'' cycle cycle' cycle'' r r' w w'. bytes_equal order order' order'' cycle cycle' cycle'' r r' s w w';
   judging_rest = λ s order order' cycle cycle' r w. bytes_rest order order' cycle cycle' s r w;
-  listing = λ s r r' w w'. one_list (read s) r r' w.listed w'.listed;
-  dividing = λ s m r r' w w'. one_history (read s) m r r' w.history w'.history;
-  judging_island = λ s m order order' order'' cycle cycle' cycle'' r r' w w'. island_equal order order' order'' cycle cycle' cycle'' r r' s m w w';
-  judging_island_rest = island_rest;
   testing = λ P s r r' w w'. one_test P (read s) r r' w.tested w'.tested;
   naming = λ N s r r' w w'. one_name N (read s) r r' w.named w'.named;
   writing = λ s before x x' r r' w w'. (w.buffer ∙ sym w'.buffer, w.answer ∙ sym w'.answer);
@@ -437,11 +432,6 @@ all_determined = record {
   c_judging = λ s order order' order'' cycle cycle' cycle'' r r' w w'. numbers_equal order' order'' cycle' cycle'' w.judgement w'.judgement r r' w.numbers w'.numbers
       (bytes_equal order order' order'' cycle cycle' cycle'' w.judgement w'.judgement s w.promise w'.promise);
   c_judging_rest = λ s order order' cycle cycle' r w. rw w.numbers (bytes_rest order order' cycle cycle' s w.judgement w.promise);
-  c_listing = λ s r r' w w'. same_numbers listed_islands w.numbers w'.numbers (one_list (read s) w.islands w'.islands w.promise.listed w'.promise.listed);
-  c_dividing = λ s m r r' w w'. same_numbers listed_steps w.numbers w'.numbers (one_history (read s) m w.steps w'.steps w.promise.history w'.promise.history);
-  c_judging_island = λ s m order order' order'' cycle cycle' cycle'' r r' w w'. numbers_equal order' order'' cycle' cycle'' w.judgement w'.judgement r r' w.numbers w'.numbers
-      (island_equal order order' order'' cycle cycle' cycle'' w.judgement w'.judgement s m w.promise w'.promise);
-  c_judging_island_rest = λ s m order order' cycle cycle' r w. rw w.numbers (island_rest s m order order' cycle cycle' w.judgement w.promise);
   c_testing = λ P s r r' w w'. same_numbers (λ (t : Tested). answered (tested_numbers t)) w.numbers w'.numbers
       (one_test P (read s) w.tested w'.tested w.promise.tested w'.promise.tested);
   c_naming = λ N s r r' w w'. same_numbers (λ (t : Named). answered (named_numbers t)) w.numbers w'.numbers
@@ -450,7 +440,7 @@ all_determined = record {
     w.promise.buffer ∙ sym w'.promise.buffer,
     same_numbers (λ (t : Written). answered (written_numbers t)) w.numbers w'.numbers (w.promise.answer ∙ sym w'.promise.answer),
   );
-  c_opening = λ s r r' w w'. same_numbers (λ (t : Opened). opened_gate (answer_numbers t.answer) t.gate) w.numbers w'.numbers
+  c_opening = λ s r r' w w'. same_numbers (λ (t : Opened). opened_gate (opening_numbers t.answer) t.gate) w.numbers w'.numbers
       (one_opening (read s) w.opened w'.opened w.promise w'.promise);
   c_calling = λ x g h h' r r' w w'.
       let e = one_call g x w.reply w'.reply h h' w.promise w'.promise in
@@ -458,4 +448,17 @@ all_determined = record {
   c_replaying = λ s calls before x x' r r' w w'.
       let e = one_replay s calls before x x' w.replayed w'.replayed w.promise w'.promise in
       (e.0, same_numbers (λ (t : Replayed). answered (played_numbers t.played)) w.numbers w'.numbers e.1);
+}
+
+pub islands_determined : IslandsDetermined
+islands_determined = record {
+  listing = λ s r r' w w'. one_list (read s) r r' w.listed w'.listed;
+  dividing = λ s m r r' w w'. one_history (read s) m r r' w.history w'.history;
+  judging_island = λ s m order order' order'' cycle cycle' cycle'' r r' w w'. island_equal order order' order'' cycle cycle' cycle'' r r' s m w w';
+  judging_island_rest = island_rest;
+  c_listing = λ s r r' w w'. same_numbers listed_islands w.numbers w'.numbers (one_list (read s) w.islands w'.islands w.promise.listed w'.promise.listed);
+  c_dividing = λ s m r r' w w'. same_numbers listed_steps w.numbers w'.numbers (one_history (read s) m w.steps w'.steps w.promise.history w'.promise.history);
+  c_judging_island = λ s m order order' order'' cycle cycle' cycle'' r r' w w'. numbers_equal order' order'' cycle' cycle'' w.judgement w'.judgement r r' w.numbers w'.numbers
+      (island_equal order order' order'' cycle cycle' cycle'' w.judgement w'.judgement s m w.promise w'.promise);
+  c_judging_island_rest = λ s m order order' cycle cycle' r w. rw w.numbers (island_rest s m order order' cycle cycle' w.judgement w.promise);
 }

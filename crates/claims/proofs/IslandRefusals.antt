@@ -25,11 +25,11 @@ use Rattle.capi.specs.declared.ListedIslands.{ListedIslands}
 use Rattle.capi.specs.declared.ListedSteps.{ListedSteps}
 use Rattle.table.specs.BookTable.{BookRow}
 use Rattle.table.proofs.BookTable.{refused_row, row_single, accepted_no_row}
-use Rattle.claims.specs.Table.{IslandRow, divided_book, no_run, smaller_run, IslandJudgeRow}
-use Rattle.claims.specs.Demands.{TurnsAway, BuffersUnchanged, island_numbers, step_numbers, WithoutIslands, WithoutSteps}
+use Rattle.claims.specs.Table.{IslandRow, divided_book, no_run, smaller_run, IslandJudgeRow, island_order_short, island_cycle_short, judged_island}
+use Rattle.claims.specs.Demands.{TurnsAway, BuffersUnchanged, island_numbers, step_numbers, WithoutIslands, WithoutSteps, Demand1OfIslands}
 use Rattle.claims.proofs.IslandNames.{dec_smallest, one_contents}
-use Rattle.claims.proofs.Turned.{turned, carried, without_value, book_refused, book_accepted}
-use Rattle.claims.proofs.JudgeRefusals.{by_buffers, buffers_unchanged, judged_carried}
+use Rattle.claims.proofs.Turned.{turned, carried, without_value, same_rows, book_refused, book_accepted}
+use Rattle.claims.proofs.JudgeRefusals.{JudgeRowBy, short_first, short_second, behind_12, by_buffers, buffers_unchanged, judged_carried}
 
 -- ---- 27
 
@@ -124,8 +124,18 @@ deck_history_turns s m r h = rw h.numbers (listed (without_value (IslandRow s m)
 
 pub island_turns : (s : List ℕ) (m : ℕ) (order order' cycle cycle' : List ℕ) (r : Judgement) → IslandJudged order order' cycle cycle' s m r
     → TurnsAway (IslandJudgeRow s m order cycle) (verdict_numbers r.verdict) (BuffersUnchanged order order' cycle cycle' r.count)
-island_turns s m order order' cycle cycle' r j = by_buffers (IslandRow s m) order order' cycle cycle' r j.short (λ a b. go (read s) refl (j.long a b))
+island_turns s m order order' cycle cycle' r j = same_rows to from (by_buffers (IslandRow s m) order order' cycle cycle' r j.short (λ a b. go (read s) refl (j.long a b)))
   where
+    to : (k at : ℕ) → JudgeRowBy (IslandRow s m) order cycle k at → IslandJudgeRow s m order cycle k at
+    to _ _ (short_first l) = island_order_short l
+    to _ _ (short_second l) = island_cycle_short l
+    to _ _ (behind_12 a b x) = judged_island a b x
+
+    from : (k at : ℕ) → IslandJudgeRow s m order cycle k at → JudgeRowBy (IslandRow s m) order cycle k at
+    from _ _ (island_order_short l) = short_first l
+    from _ _ (island_cycle_short l) = short_second l
+    from _ _ (judged_island a b x) = behind_12 a b x
+
     Same : Type 0
     Same = BuffersUnchanged order order' cycle cycle' r.count
 
@@ -138,3 +148,15 @@ island_turns s m order order' cycle cycle' r j = by_buffers (IslandRow s m) orde
     go : (o : Outcome) → read s ≡ o → OutcomePart order order' cycle cycle' o m r → TurnsAway (IslandRow s m) (verdict_numbers r.verdict) Same
     go (refused cause at) e w = rw w.verdict_is (book_rows s m Same cause at e (buffers_unchanged (IslandRow s m) order order' cycle cycle' r cause at w))
     go (accepted c) e w = found c e w (dec_smallest c w.name m)
+
+-- ---- the demand
+
+pub demand_1_of_islands : Demand1OfIslands
+demand_1_of_islands = record {
+  list_islands = islands_turn;
+  deck_islands = deck_islands_turn;
+  island_history = history_turns;
+  deck_island_history = deck_history_turns;
+  judge_island = island_turns;
+  deck_judge_island = λ s m order order' cycle cycle' r h. rw h.numbers (island_turns s m order order' cycle cycle' h.judgement h.promise);
+}

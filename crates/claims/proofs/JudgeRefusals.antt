@@ -16,9 +16,14 @@ use Rattle.judge.specs.declared.Judgement.{Judgement}
 use Rattle.judge.specs.declared.Verdict.{Verdict}
 use Rattle.judge.specs.declared.Verdict.TheVariants.{Passed, Tangled, Refused as NotJudged}
 use Rattle.table.specs.BookTable.{most_steps}
-use Rattle.claims.specs.Table.{JudgeRowBy, order_short, cycle_short, judged_book}
 use Rattle.claims.specs.Demands.{TurnsAway, BuffersUnchanged}
 use Rattle.claims.proofs.Turned.{turned, carried}
+
+-- the refusals of the judge of what has the rows R as its own refusals
+pub data JudgeRowBy (R : ℕ → ℕ → Type 0) (order cycle : List ℕ) : ℕ → ℕ → Type 0 where
+  short_first : length order < most_steps → JudgeRowBy R order cycle 12 0
+  short_second : length cycle < most_steps → JudgeRowBy R order cycle 12 0
+  behind_12 : {n place : ℕ} → most_steps ≤ length order → most_steps ≤ length cycle → R n place → JudgeRowBy R order cycle n place
 
 module _ (R : ℕ → ℕ → Type 0) (order order' cycle cycle' : List ℕ) (r : Judgement) where
   abbrev Same : Type 0
@@ -38,16 +43,16 @@ module _ (R : ℕ → ℕ → Type 0) (order order' cycle cycle' : List ℕ) (r 
 
   -- 12 comes first
   only_12 : (length order < most_steps) ⊎ (length cycle < most_steps) → (m at : ℕ) → JudgeRowBy R order cycle m at → (12 ≡ m) × (0 ≡ at)
-  only_12 h m at (order_short l) = (refl, refl)
-  only_12 h m at (cycle_short l) = (refl, refl)
-  only_12 (inl h) m at (judged_book a b x) = absurd (omega arith)
-  only_12 (inr h) m at (judged_book a b x) = absurd (omega arith)
+  only_12 h m at (short_first l) = (refl, refl)
+  only_12 h m at (short_second l) = (refl, refl)
+  only_12 (inl h) m at (behind_12 a b x) = absurd (omega arith)
+  only_12 (inr h) m at (behind_12 a b x) = absurd (omega arith)
 
   -- with buffers that are long enough the others are left
   only_others : most_steps ≤ length order → most_steps ≤ length cycle → {m at : ℕ} → JudgeRowBy R order cycle m at → R m at
-  only_others a b (order_short l) = absurd (omega arith)
-  only_others a b (cycle_short l) = absurd (omega arith)
-  only_others a b (judged_book x y z) = z
+  only_others a b (short_first l) = absurd (omega arith)
+  only_others a b (short_second l) = absurd (omega arith)
+  only_others a b (behind_12 x y z) = z
 
   pub by_buffers : ((length order < most_steps) ⊎ (length cycle < most_steps) → RefusedAs order order' cycle cycle' JudgeBufferShort 0 r)
       → (most_steps ≤ length order → most_steps ≤ length cycle → TurnsAway R (verdict_numbers r.verdict) Same)
@@ -60,10 +65,10 @@ module _ (R : ℕ → ℕ → Type 0) (order order' cycle cycle' : List ℕ) (r 
           rw k.verdict_is (turned (JudgeRowBy R order cycle) Same (refused_with JudgeBufferShort 0) x refl (buffers_unchanged JudgeBufferShort 0 k) (only_12 h))
 
       go : Dec (length order < most_steps) → Dec (length cycle < most_steps) → TurnsAway (JudgeRowBy R order cycle) (verdict_numbers r.verdict) Same
-      go (yes h) d = by_12 (inl h) (order_short h)
-      go (no n) (yes h) = by_12 (inr h) (cycle_short h)
+      go (yes h) d = by_12 (inl h) (short_first h)
+      go (no n) (yes h) = by_12 (inr h) (short_second h)
       go (no n) (no m) =
           let a : most_steps ≤ length order = omega arith in
           let b : most_steps ≤ length cycle = omega arith in
           let t = long a b in
-          record { row = λ z. judged_book a b (t.row z); no_value = t.no_value; unchanged = t.unchanged; refused_by = λ m at x. t.refused_by m at (only_others a b x) }
+          record { row = λ z. behind_12 a b (t.row z); no_value = t.no_value; unchanged = t.unchanged; refused_by = λ m at x. t.refused_by m at (only_others a b x) }

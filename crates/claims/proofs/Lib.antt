@@ -1,6 +1,6 @@
 -- Bytes: lists of bytes, by computation. EachNumber: each number of a book's refusals is some book's.
 -- Turned: a refusal that is a row, and a call that is carried out. JudgeRefusals: 12, then the refusals of what is judged. IslandNames: an island has one name.
--- IslandRefusals: the refusals of the calls on islands.
+-- IslandRefusals: the refusals of the calls on islands, demand 1 of these.
 -- Refusals: demand 1. Demands: demands 2 and 3, and the twelve rows. Determined: two results that meet a call's contract are equal. Lazy: document 01's
 -- lazy programs do not meet the demands. Classes: answers that meet the calls' contracts have the classes nested. OnePass: each row is final
 -- once its step is read. OldBooks: a contract by a book's conflict is one by the earlier conflict, where the two are the same. ArcsByName: the names that

@@ -12,7 +12,7 @@ use lib.ListN.{length}
 use lib.Dec.{eqb, leb}
 use Rattle.buffer.specs.Put.{Put}
 use Rattle.book.specs.Format.{Contents, Outcome, refused, accepted, pick, read}
-use Rattle.book.specs.Numbers.{number, Numbers, refused_with, value_of, reading_numbers, answer_numbers}
+use Rattle.book.specs.Numbers.{number, Numbers, refused_with, value_of, reading_numbers}
 use Rattle.book.specs.Book.{outcome_of, empty_book, ReadAs}
 use Rattle.book.specs.declared.Cause.{Cause}
 use Rattle.book.specs.declared.Cause.TheVariants.{WriterBufferShort, NoCall, AnswersShort, Damaged}
@@ -31,7 +31,7 @@ use Rattle.names.specs.declared.ArcNames.{ArcNames}
 use Rattle.evidence.specs.Named.{named_numbers, OutcomeNamed, NamedAs}
 use Rattle.evidence.specs.declared.Named.{Named}
 use Rattle.plain.specs.Plain.{Call, step, withdraw, take_back, Answer, refused as refused_by_number, State, PlainCall, step_refused, step_tangled, step_kept, withdraw_refused, withdraws, take_back_refused, takes_back, Refusal, not_declared, was_withdrawn, all_kept, TakeBackRefusal, undeclared, was_taken_back}
-use Rattle.gate.specs.Gate.{answer_of, reply_numbers, book_of, state_of, Sound, opening_answer, opened_book, OpenedAs, CalledAs, on_sound, on_damaged}
+use Rattle.gate.specs.Gate.{answer_of, reply_numbers, book_of, state_of, Sound, opening_numbers, opening_answer, opened_book, OpenedAs, CalledAs, on_sound, on_damaged}
 use Rattle.replay.specs.Replay.{is_call, calls_of, bad_at, played_numbers, played_by, Replays}
 use Rattle.gate.specs.declared.Gate.{Gate}
 use Rattle.gate.specs.declared.Opened.{Opened}
@@ -46,12 +46,11 @@ use Rattle.replay.proofs.Replays.{whole_calls}
 use Rattle.report.specs.Text.{Findings, Report, refused_at, accepted_with, text_of}
 use Rattle.report.specs.Reporting.{ReportOn, Reports}
 use Rattle.table.specs.BookTable.{BookRow, NoRow}
-use Rattle.claims.specs.Table.{JudgeRow, WriterRow, written_book, shorter_than_the_book, run_called, StepsOrWithdraws, is_step, is_withdrawal, GateRow, row_20, row_21, row_22, row_23, row_26, row_32, NoCallAt, cut_off, none_of_them, behind_53, behind_57, behind_54, ReplayRow, replayed_book, no_call, answers_short}
+use Rattle.claims.specs.Table.{JudgeRow, order_short, cycle_short, judged_book, WriterRow, written_book, shorter_than_the_book, run_called, StepsOrWithdraws, is_step, is_withdrawal, GateRow, row_20, row_21, row_22, row_23, row_26, row_32, NoCallAt, cut_off, none_of_them, behind_53, behind_57, behind_54, ReplayRow, replayed_book, no_call, answers_short}
 use Rattle.claims.specs.Demands.{TurnsAway, BuffersUnchanged, AnswersUnchanged, WithoutRuns, Demand1}
 use Rattle.table.proofs.BookTable.{refused_row, row_refused, row_numbered, row_single, accepted_no_row}
-use Rattle.claims.proofs.Turned.{turned, carried, without_value, book_refused, book_accepted, outcome_turns}
-use Rattle.claims.proofs.JudgeRefusals.{by_buffers, buffers_unchanged, judged_carried}
-use Rattle.claims.proofs.IslandRefusals.{islands_turn, deck_islands_turn, history_turns, deck_history_turns, island_turns}
+use Rattle.claims.proofs.Turned.{turned, carried, without_value, same_rows, book_refused, book_accepted, outcome_turns}
+use Rattle.claims.proofs.JudgeRefusals.{JudgeRowBy, short_first, short_second, behind_12, by_buffers, buffers_unchanged, judged_carried}
 use Rattle.claims.proofs.EachNumber.{each_number}
 
 -- ---- calls that read a book and have no refusal of their own
@@ -79,10 +78,10 @@ name_turns N s r h = go (read s) refl h.named
     go (refused cause at) e t = rw t.refusal (book_refused s (Unit {0}) cause at e tt)
     go (accepted c) e t = rw t (book_accepted s (Unit {0}) c (value_of (names_value (N c))) e refl)
 
-open_turns : (s : List ℕ) (o : Opened) → OpenedAs (read s) o → TurnsAway (BookRow s) (answer_numbers o.answer) (WithoutRuns o.gate)
+open_turns : (s : List ℕ) (o : Opened) → OpenedAs (read s) o → TurnsAway (BookRow s) (opening_numbers o.answer) (WithoutRuns o.gate)
 open_turns s o h = rw h.answer (go (read s) refl h.book)
   where
-    go : (x : Outcome) → read s ≡ x → book_of o.gate ≡ opened_book x → TurnsAway (BookRow s) (answer_numbers (opening_answer x)) (WithoutRuns o.gate)
+    go : (x : Outcome) → read s ≡ x → book_of o.gate ≡ opened_book x → TurnsAway (BookRow s) (opening_numbers (opening_answer x)) (WithoutRuns o.gate)
     go (refused cause at) e b = book_refused s (WithoutRuns o.gate) cause at e (record { book = b; state = h.state })
     go (accepted c) e b = book_accepted s (WithoutRuns o.gate) c (value_of 0) e refl
 
@@ -90,8 +89,18 @@ open_turns s o h = rw h.answer (go (read s) refl h.book)
 
 judge_turns : (s order order' cycle cycle' : List ℕ) (r : Judgement) → BytesJudged order order' cycle cycle' s r
     → TurnsAway (JudgeRow s order cycle) (verdict_numbers r.verdict) (BuffersUnchanged order order' cycle cycle' r.count)
-judge_turns s order order' cycle cycle' r j = by_buffers (BookRow s) order order' cycle cycle' r j.short (λ a b. go (read s) refl (j.long a b))
+judge_turns s order order' cycle cycle' r j = same_rows to from (by_buffers (BookRow s) order order' cycle cycle' r j.short (λ a b. go (read s) refl (j.long a b)))
   where
+    to : (m at : ℕ) → JudgeRowBy (BookRow s) order cycle m at → JudgeRow s order cycle m at
+    to _ _ (short_first l) = order_short l
+    to _ _ (short_second l) = cycle_short l
+    to _ _ (behind_12 a b x) = judged_book a b x
+
+    from : (m at : ℕ) → JudgeRow s order cycle m at → JudgeRowBy (BookRow s) order cycle m at
+    from _ _ (order_short l) = short_first l
+    from _ _ (cycle_short l) = short_second l
+    from _ _ (judged_book a b x) = behind_12 a b x
+
     go : (o : Outcome) → read s ≡ o → OutcomeJudged order order' cycle cycle' o r → TurnsAway (BookRow s) (verdict_numbers r.verdict) (BuffersUnchanged order order' cycle cycle' r.count)
     go (refused cause at) e k = rw k.verdict_is (book_refused s (BuffersUnchanged order order' cycle cycle' r.count) cause at e (buffers_unchanged (BookRow s) order order' cycle cycle' r cause at k))
     go (accepted c) e k = judged_carried (BookRow s) order order' cycle cycle' r c k (accepted_no_row s c e)
@@ -361,12 +370,6 @@ demand_1 = record {
   read_bytes = read_turns;
   deck_read = λ s r h. rw h.numbers (outcome_turns s (Unit {0}) (read s) refl (λ cause at e. tt));
   judge_bytes = judge_turns;
-  list_islands = islands_turn;
-  deck_islands = deck_islands_turn;
-  island_history = history_turns;
-  deck_island_history = deck_history_turns;
-  judge_island = island_turns;
-  deck_judge_island = λ s m order order' cycle cycle' r h. rw h.numbers (island_turns s m order order' cycle cycle' h.judgement h.promise);
   deck_judge = λ s order order' cycle cycle' r h. rw h.numbers (judge_turns s order order' cycle cycle' h.judgement h.promise);
   test_bytes = test_turns;
   deck_test = λ P s r h. rw h.numbers (test_turns P s h.tested h.promise);
@@ -375,7 +378,7 @@ demand_1 = record {
   write_bytes = write_turns;
   deck_write = λ s out out' r h. rw h.numbers (write_turns s out out' h.written h.promise);
   open_gate = open_turns;
-  deck_open = λ s r h. rw h.numbers (without_value (BookRow s) (WithoutRuns h.opened.gate) (answer_numbers h.opened.answer) (open_turns s h.opened h.promise));
+  deck_open = λ s r h. rw h.numbers (without_value (BookRow s) (WithoutRuns h.opened.gate) (opening_numbers h.opened.answer) (open_turns s h.opened h.promise));
   call_gate = call_turns;
   deck_call = λ g h x r w. rw w.numbers (call_turns g h x w.reply w.promise);
   replay_calls = replay_turns;

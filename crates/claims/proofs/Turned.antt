@@ -21,6 +21,10 @@ module _ (R : ℕ → ℕ → Type 0) (U : Type 0) where
   pub without_value : (n : Numbers) → TurnsAway R n U → TurnsAway R (record { number = n.number; place = n.place; value = 0 }) U
   without_value n t = record { row = t.row; no_value = λ z. refl; unchanged = t.unchanged; refused_by = t.refused_by }
 
+-- the same refusals, as rows of another form
+pub same_rows : {R S : ℕ → ℕ → Type 0} {U : Type 0} {n : Numbers} → ((m at : ℕ) → R m at → S m at) → ((m at : ℕ) → S m at → R m at) → TurnsAway R n U → TurnsAway S n U
+same_rows to from t = record { row = λ z. to _ _ (t.row z); no_value = t.no_value; unchanged = t.unchanged; refused_by = λ m at r. t.refused_by m at (from m at r) }
+
 -- ---- calls that read a book and have no refusal of their own
 
 module _ (s : List ℕ) (U : Type 0) where

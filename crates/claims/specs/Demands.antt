@@ -26,7 +26,7 @@ use Rattle.names.specs.declared.ArcNames.{ArcNames}
 use Rattle.evidence.specs.Named.{named_numbers, NamedAs}
 use Rattle.evidence.specs.declared.Named.{Named}
 use Rattle.plain.specs.Plain.{Call, step, withdraw, take_back, Answer as PlainAnswer, place, withdrawn, taken_back, refused, State, In, newly_opened}
-use Rattle.gate.specs.Gate.{reply_numbers, book_of, state_of, opened_book, OpenedAs, CalledAs}
+use Rattle.gate.specs.Gate.{reply_numbers, book_of, state_of, opening_numbers, opened_book, OpenedAs, CalledAs}
 use Rattle.gate.specs.Chain.{Chain}
 use Rattle.plain.specs.Demand.{Demand3}
 use Rattle.replay.specs.Replay.{played_numbers, Unchanged, Replays}
@@ -123,7 +123,7 @@ pub record Demand1 : Type 1 where
   pub deck_name : (N : Contents → ArcNames) (s : List ℕ) (r : Answered) → NameCall N s r → TurnsAway (BookRow s) (answered_numbers r) (Unit {0})
   pub write_bytes : (s out out' : List ℕ) (r : Written) → Wrote s out out' r → TurnsAway (WriterRow s out) (written_numbers r) (out' ≡ out)
   pub deck_write : (s out out' : List ℕ) (r : Answered) → WriteCall s out out' r → TurnsAway (WriterRow s out) (answered_numbers r) (out' ≡ out)
-  pub open_gate : (s : List ℕ) (o : Opened) → OpenedAs (read s) o → TurnsAway (BookRow s) (answer_numbers o.answer) (WithoutRuns o.gate)
+  pub open_gate : (s : List ℕ) (o : Opened) → OpenedAs (read s) o → TurnsAway (BookRow s) (opening_numbers o.answer) (WithoutRuns o.gate)
   pub deck_open : (s : List ℕ) (r : OpenedGate) → OpenCall s r → TurnsAway (BookRow s) (opened_numbers r) (WithoutRuns r.gate)
   -- step, withdraw and take back, on any record
   pub call_gate : (g h : Gate) (x : Call) (a : Reply) → CalledAs g x a h → TurnsAway (GateRow g x) (reply_numbers a) (h ≡ g)
@@ -132,7 +132,12 @@ pub record Demand1 : Type 1 where
       → TurnsAway (ReplayRow s calls answers) (played_numbers r.played) (AnswersUnchanged s answers answers' r.gate)
   pub deck_replay : (s calls answers answers' : List ℕ) (r : Answered) → ReplayCall s calls answers answers' r
       → TurnsAway (ReplayRow s calls answers) (answered_numbers r) (answers' ≡ answers)
-  -- the islands, an island's history, and an island judged
+  -- the program's text, in a buffer that is always long enough: of a refused book its number and place alone
+  pub report_refused : (s text text' : List ℕ) (n : ℕ) → Reports (read s) text text' n → (m place : ℕ) → BookRow s m place → Put (text_of (refused_at m place)) text text' n
+  pub report_accepted : (s text text' : List ℕ) (n : ℕ) → Reports (read s) text text' n → NoRow s → (w : Findings) × Put (text_of (accepted_with w)) text text' n
+
+-- the same of the calls on islands: the islands, an island's history, and an island judged
+pub record Demand1OfIslands : Type 0 where
   pub list_islands : (s : List ℕ) (r : IslandList) → IslandsListed s r → TurnsAway (BookRow s) (answer_numbers r.answer) (r ≡ no_islands r.answer)
   pub deck_islands : (s : List ℕ) (r : ListedIslands) → IslandsCall s r → TurnsAway (BookRow s) (island_numbers r) (WithoutIslands r)
   pub island_history : (s : List ℕ) (m : ℕ) (r : IslandSteps) → IslandHistory s m r → TurnsAway (IslandRow s m) (answer_numbers r.answer) (r ≡ no_steps r.answer)
@@ -141,9 +146,6 @@ pub record Demand1 : Type 1 where
       → TurnsAway (IslandJudgeRow s m order cycle) (verdict_numbers r.verdict) (BuffersUnchanged order order' cycle cycle' r.count)
   pub deck_judge_island : (s : List ℕ) (m : ℕ) (order order' cycle cycle' : List ℕ) (r : Judged) → IslandJudgeCall s m order order' cycle cycle' r
       → TurnsAway (IslandJudgeRow s m order cycle) (judged_numbers r) (BuffersUnchanged order order' cycle cycle' r.count)
-  -- the program's text, in a buffer that is always long enough: of a refused book its number and place alone
-  pub report_refused : (s text text' : List ℕ) (n : ℕ) → Reports (read s) text text' n → (m place : ℕ) → BookRow s m place → Put (text_of (refused_at m place)) text text' n
-  pub report_accepted : (s text text' : List ℕ) (n : ℕ) → Reports (read s) text text' n → NoRow s → (w : Findings) × Put (text_of (accepted_with w)) text text' n
 
 -- Demand 2, of a verdict and its count on the bytes of a book with contents c, and of the buffers after the call. `passed` and `tangled` are the two
 -- verdicts, as an enum's cases or in numbers.

@@ -92,14 +92,6 @@ pub record Determined : Type 1 where
       → EqualButCycle Tangled r.verdict r'.verdict r.count r'.count order' order'' cycle' cycle''
   -- what lies behind the cycle is as before
   pub judging_rest : (s order order' cycle cycle' : List ℕ) (r : Judgement) → BytesJudged order order' cycle cycle' s r → drop r.count cycle' ≡ drop r.count cycle
-  -- the islands; the history of the island whose smallest run is m; that island judged, as the judge of the book
-  pub listing : (s : List ℕ) → AtMostOne (IslandsListed s)
-  pub dividing : (s : List ℕ) (m : ℕ) → AtMostOne (IslandHistory s m)
-  pub judging_island : (s : List ℕ) (m : ℕ) (order order' order'' cycle cycle' cycle'' : List ℕ) (r r' : Judgement)
-      → IslandJudged order order' cycle cycle' s m r → IslandJudged order order'' cycle cycle'' s m r'
-      → EqualButCycle Tangled r.verdict r'.verdict r.count r'.count order' order'' cycle' cycle''
-  pub judging_island_rest : (s : List ℕ) (m : ℕ) (order order' cycle cycle' : List ℕ) (r : Judgement) → IslandJudged order order' cycle cycle' s m r
-      → drop r.count cycle' ≡ drop r.count cycle
   -- the four class tests, the order check and the cycle check
   pub testing : (P : Contents → Type 0) (s : List ℕ) → AtMostOne (TestedAs P s)
   -- the arc test; N names the arcs of the contents
@@ -131,6 +123,24 @@ pub record Determined : Type 1 where
       → JudgeCall s order order' cycle cycle' r → JudgeCall s order order'' cycle cycle'' r'
       → EqualButCycle (verdict_numbers Tangled) (judged_numbers r) (judged_numbers r') r.count r'.count order' order'' cycle' cycle''
   pub c_judging_rest : (s order order' cycle cycle' : List ℕ) (r : Judged) → JudgeCall s order order' cycle cycle' r → drop r.count cycle' ≡ drop r.count cycle
+  pub c_testing : (P : Contents → Type 0) (s : List ℕ) → AtMostOne (TestCall P s)
+  pub c_naming : (N : Contents → ArcNames) (s : List ℕ) → AtMostOne (NameCall N s)
+  pub c_writing : (s before : List ℕ) → AtMostOnePair (WriteCall s before)
+  pub c_opening : (s : List ℕ) → AtMostOne (OpenCall s)
+  pub c_calling : (x : Call) (g : Gate) → AtMostOnePair (GateCall x g)
+  pub c_replaying : (s calls before : List ℕ) → AtMostOnePair (ReplayCall s calls before)
+
+-- the same of the calls on islands
+pub record IslandsDetermined : Type 0 where
+  -- the islands; the history of the island whose smallest run is m; that island judged, as the judge of the book
+  pub listing : (s : List ℕ) → AtMostOne (IslandsListed s)
+  pub dividing : (s : List ℕ) (m : ℕ) → AtMostOne (IslandHistory s m)
+  pub judging_island : (s : List ℕ) (m : ℕ) (order order' order'' cycle cycle' cycle'' : List ℕ) (r r' : Judgement)
+      → IslandJudged order order' cycle cycle' s m r → IslandJudged order order'' cycle cycle'' s m r'
+      → EqualButCycle Tangled r.verdict r'.verdict r.count r'.count order' order'' cycle' cycle''
+  pub judging_island_rest : (s : List ℕ) (m : ℕ) (order order' cycle cycle' : List ℕ) (r : Judgement) → IslandJudged order order' cycle cycle' s m r
+      → drop r.count cycle' ≡ drop r.count cycle
+  -- the same of the calls for C
   pub c_listing : (s : List ℕ) → AtMostOne (IslandsCall s)
   pub c_dividing : (s : List ℕ) (m : ℕ) → AtMostOne (IslandHistoryCall s m)
   pub c_judging_island : (s : List ℕ) (m : ℕ) (order order' order'' cycle cycle' cycle'' : List ℕ) (r r' : Judged)
@@ -138,9 +148,3 @@ pub record Determined : Type 1 where
       → EqualButCycle (verdict_numbers Tangled) (judged_numbers r) (judged_numbers r') r.count r'.count order' order'' cycle' cycle''
   pub c_judging_island_rest : (s : List ℕ) (m : ℕ) (order order' cycle cycle' : List ℕ) (r : Judged) → IslandJudgeCall s m order order' cycle cycle' r
       → drop r.count cycle' ≡ drop r.count cycle
-  pub c_testing : (P : Contents → Type 0) (s : List ℕ) → AtMostOne (TestCall P s)
-  pub c_naming : (N : Contents → ArcNames) (s : List ℕ) → AtMostOne (NameCall N s)
-  pub c_writing : (s before : List ℕ) → AtMostOnePair (WriteCall s before)
-  pub c_opening : (s : List ℕ) → AtMostOne (OpenCall s)
-  pub c_calling : (x : Call) (g : Gate) → AtMostOnePair (GateCall x g)
-  pub c_replaying : (s calls before : List ℕ) → AtMostOnePair (ReplayCall s calls before)

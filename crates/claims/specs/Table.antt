@@ -14,15 +14,12 @@ use Rattle.table.specs.BookTable.{most_steps, BookRow, NoRow}
 
 -- ---- 12, 13, 20 to 27 and 32: a call's refusal, number and place; where the table says "number only" the place is 0
 
--- the judge of what has the rows R as its own refusals: 12 comes first, then these
-pub data JudgeRowBy (R : ℕ → ℕ → Type 0) (order cycle : List ℕ) : ℕ → ℕ → Type 0 where
+-- the judge: 12 comes first, then the book's
+pub data JudgeRow (s order cycle : List ℕ) : ℕ → ℕ → Type 0 where
   -- 12: order or cycle buffer under so many bytes as a book may have steps
-  order_short : length order < most_steps → JudgeRowBy R order cycle 12 0
-  cycle_short : length cycle < most_steps → JudgeRowBy R order cycle 12 0
-  judged_book : {n place : ℕ} → most_steps ≤ length order → most_steps ≤ length cycle → R n place → JudgeRowBy R order cycle n place
-
-abbrev pub JudgeRow : List ℕ → List ℕ → List ℕ → ℕ → ℕ → Type 0
-JudgeRow s order cycle = JudgeRowBy (BookRow s) order cycle
+  order_short : length order < most_steps → JudgeRow s order cycle 12 0
+  cycle_short : length cycle < most_steps → JudgeRow s order cycle 12 0
+  judged_book : {n place : ℕ} → most_steps ≤ length order → most_steps ≤ length cycle → BookRow s n place → JudgeRow s order cycle n place
 
 -- the writer: the book's come first, then 13
 pub data WriterRow (s out : List ℕ) : ℕ → ℕ → Type 0 where
@@ -39,8 +36,11 @@ pub data IslandRow (s : List ℕ) (m : ℕ) : ℕ → ℕ → Type 0 where
   smaller_run : (c : Contents) → read s ≡ accepted c → (k : ℕ) → k < m → Connected (Joined (conflict_of c) c.history) m k → IslandRow s m 27 0
 
 -- an island judged: 12 comes first, then these
-abbrev pub IslandJudgeRow : List ℕ → ℕ → List ℕ → List ℕ → ℕ → ℕ → Type 0
-IslandJudgeRow s m order cycle = JudgeRowBy (IslandRow s m) order cycle
+pub data IslandJudgeRow (s : List ℕ) (m : ℕ) (order cycle : List ℕ) : ℕ → ℕ → Type 0 where
+  -- 12: order or cycle buffer under so many bytes as a book may have steps
+  island_order_short : length order < most_steps → IslandJudgeRow s m order cycle 12 0
+  island_cycle_short : length cycle < most_steps → IslandJudgeRow s m order cycle 12 0
+  judged_island : {n place : ℕ} → most_steps ≤ length order → most_steps ≤ length cycle → IslandRow s m n place → IslandJudgeRow s m order cycle n place
 
 -- the run that a call is for
 abbrev pub run_called : Call → ℕ

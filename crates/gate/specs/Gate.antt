@@ -47,6 +47,11 @@ abbrev pub opening_answer : Outcome → BookAnswer
 opening_answer (book_refused cause at) = BookRefused cause at
 opening_answer (book_accepted c) = BookAccepted
 
+-- each case in numbers: an opened gate has no value
+abbrev pub opening_numbers : BookAnswer → Numbers
+opening_numbers (BookRefused cause at) = refused_with cause at
+opening_numbers BookAccepted = value_of 0
+
 abbrev pub opened_book : Outcome → Contents
 opened_book (book_refused cause at) = nothing
 opened_book (book_accepted c) = with_history c []

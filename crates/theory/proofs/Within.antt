@@ -278,6 +278,10 @@ unfolding project
 project_agree keep keep' [] e = refl
 project_agree keep keep' (x ∷ l) e = rw (e 0 (suc-le-suc zero-le), project_agree keep keep' l (λ p i. e (suc p) (suc-le-suc i)))
 
+-- tests with the same answers keep the same steps
+pub project_same : (keep keep' : ℕ → Bool) → ((x : ℕ) → keep x ≡ keep' x) → (l : List ℕ) → project keep l ≡ project keep' l
+project_same keep keep' e l = project_agree keep keep' l (λ p i. e (run l p))
+
 -- leaving runs out of a relatively serializable history leaves a relatively serializable one
 pub project_serializable : (conflict : ℕ → ℕ → ℕ → ℕ → Bool) (unit : ℕ → ℕ → ℕ → ℕ) (keep : ℕ → Bool) (h : List ℕ) → RelativelySerializable conflict unit h → RelativelySerializable conflict unit (project keep h)
 project_serializable conflict unit keep h s =
