@@ -38,8 +38,8 @@ pub data IslandRow (s : List ℕ) (m : ℕ) : ℕ → ℕ → Type 0 where
 -- an island judged: 12 comes first, then these
 pub data IslandJudgeRow (s : List ℕ) (m : ℕ) (order cycle : List ℕ) : ℕ → ℕ → Type 0 where
   -- 12: order or cycle buffer under so many bytes as a book may have steps
-  island_order_short : length order < most_steps → IslandJudgeRow s m order cycle 12 0
-  island_cycle_short : length cycle < most_steps → IslandJudgeRow s m order cycle 12 0
+  island_order_short : (short : length order < most_steps) → IslandJudgeRow s m order cycle 12 0
+  island_cycle_short : (short : length cycle < most_steps) → IslandJudgeRow s m order cycle 12 0
   judged_island : {n place : ℕ} → most_steps ≤ length order → most_steps ≤ length cycle → IslandRow s m n place → IslandJudgeRow s m order cycle n place
 
 -- the run that a call is for
