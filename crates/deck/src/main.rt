@@ -1,15 +1,17 @@
 // The program: reads a book from standard input and writes the report on it to standard output.
 #![tactic(auto)]
 
-ghost use Rattle.std.specs.Prelude.{◌≤◌, length, IfOk};
+ghost use Rattle.std.specs.Prelude.{◌≡◌, ◌≤◌, length, IfOk};
 
 use book::Book;
 use std::io;
 use std::io::Read;
 
-// Reads until the buffer is full or the input ends; answers how many bytes it put to the buffer's front.
+// Reads until the buffer is full or the input ends; answers how many bytes it put to the buffer's front. The error is that of a read, behind which the
+// buffer has what was read before it.
 fn read_full(input: &mut impl Read, buf: &mut [u8]) -> io::Result<usize>
-    ensures { IfOk result (λ n. n ≤ length buf.new) }
+    ensures read { IfOk result (λ n. n ≤ length buf.new) }
+    ensures kept { length buf.new ≡ length buf.old }
 {
     let mut done = 0;
     while done < buf.len() {

@@ -2,7 +2,7 @@
 // A book stands there as the label's length in one byte, the label, the book's length in two bytes, high first, and the book.
 #![tactic(auto)]
 
-ghost use Rattle.std.specs.Prelude.{◌<◌, ◌≤◌, length, IfOk};
+ghost use Rattle.std.specs.Prelude.{◌≡◌, ◌<◌, ◌≤◌, length, IfOk};
 
 use book::Answer;
 use std::io;
@@ -63,9 +63,11 @@ fn show_all(out: &impl Print, s: &[u8]) -> io::Result<()> {
     Ok(())
 }
 
-// Reads until the buffer is full or the input ends; answers how many bytes it put to the buffer's front.
+// Reads until the buffer is full or the input ends; answers how many bytes it put to the buffer's front. The error is that of a read, behind which the
+// buffer has what was read before it.
 fn read_full(input: &mut impl Read, buf: &mut [u8]) -> io::Result<usize>
-    ensures { IfOk result (λ n. n ≤ length buf.new) }
+    ensures read { IfOk result (λ n. n ≤ length buf.new) }
+    ensures kept { length buf.new ≡ length buf.old }
 {
     let mut done = 0;
     while done < buf.len() {
