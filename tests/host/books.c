@@ -156,9 +156,14 @@ shape draw_shape(source *s) {
     f.burst = 1 + below(s, below(s, 2) ? 2 : f.steps);
     f.undone = 25;
     f.misplaced = below(s, 25) ? 0 : 1 + below(s, 3);
-    source other = {~s->state}; /* so that a shape with groups takes as many draws as one without */
-    if (f.runs >= 4 && below(&other, 2))
-        f.groups = 2 + below(&other, f.runs / 4); /* of two runs or more */
+    return f;
+}
+
+shape draw_grouped_shape(source *s) {
+    shape f = draw_shape(s);
+    if (f.runs < 4)
+        f.runs = 4;
+    f.groups = 2 + below(s, f.runs / 4); /* of two runs or more */
     return f;
 }
 
@@ -297,6 +302,7 @@ static void print_book(size_t len) {
 }
 
 static struct {
+    const char *sort; /* a word before 'book', or nothing */
     uint64_t seed;
     long index; /* among the books of the seed */
     size_t len;
@@ -306,10 +312,10 @@ static struct {
 static void count_drawn(void) {
     enum { SHOWN = 3 };
     char label[64];
-    snprintf(label, sizeof label, "book %ld of seed %" PRIu64, drawn.index, drawn.seed);
+    snprintf(label, sizeof label, "%sbook %ld of seed %" PRIu64, drawn.sort, drawn.index, drawn.seed);
     if (count_book(label) || failed > SHOWN)
         return;
-    printf("# the last book of: %s -s %" PRIu64 " -n %ld%s\n", program, drawn.seed, drawn.index + 1, operand_text);
+    printf("# the last %sbook of: %s -s %" PRIu64 " -n %ld%s\n", drawn.sort, program, drawn.seed, drawn.index + 1, operand_text);
     print_book(drawn.len);
 }
 
@@ -345,11 +351,11 @@ void test_files(uint64_t seed, char **files, book_test *test) {
     }
 }
 
-/* Makes the test on the first books of a seed. */
-static void test_seed(uint64_t seed, long books, book_test *test) {
+/* Makes the test on the first books of a seed, whose shapes are drawn so. */
+static void test_seed(uint64_t seed, long books, shape draw_one(source *s), book_test *test) {
     source s = begin(seed);
     for (long k = 0; k < books; k++) {
-        shape f = draw_shape(&s);
+        shape f = draw_one(&s);
         size_t len = k % 50 ? make_book(&s, &f, book) : make_long_book(&s, book);
         if (k % 2)
             len = damage(&s, book, len);
@@ -361,11 +367,19 @@ static void test_seed(uint64_t seed, long books, book_test *test) {
     }
 }
 
-int test_books(const selection *chosen, book_test *test) {
+/* Makes the test on the chosen books, of this sort. */
+static void test_chosen(const selection *chosen, const char *sort, shape draw_one(source *s), book_test *test) {
     uint64_t seed = chosen->seed;
     watch_signals();
+    drawn.sort = sort;
     for (long left = chosen->books; left > 0; left -= chosen->each)
-        test_seed(seed++, left < chosen->each ? left : chosen->each, test);
+        test_seed(seed++, left < chosen->each ? left : chosen->each, draw_one, test);
+}
+
+void test_grouped_books(const selection *chosen, book_test *test) { test_chosen(chosen, "grouped ", draw_grouped_shape, test); }
+
+int test_books(const selection *chosen, book_test *test) {
+    test_chosen(chosen, "", draw_shape, test);
     printf("%ld passed, %ld failed\n", passed, failed);
     return failed != 0;
 }

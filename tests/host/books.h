@@ -44,6 +44,9 @@ size_t make_long_book(source *s, uint8_t *out);
 /* A shape drawn by chance, small or large. */
 shape draw_shape(source *s);
 
+/* One with four runs at least, in groups of two or more. */
+shape draw_grouped_shape(source *s);
+
 /* The new length of a book with one or more bytes changed, left out or put in. */
 size_t damage(source *s, uint8_t *book, size_t len);
 
@@ -76,9 +79,13 @@ typedef void book_test(source *s, const uint8_t *book, size_t len);
    book that failed; a file that cannot be read fails too. */
 void test_files(uint64_t seed, char **files, book_test *test);
 
+/* Makes the test on as many books as are chosen, of shapes with groups, beside the chosen ones, which are the same with or without it. Prints as test_books
+   does, but for the last line. */
+void test_grouped_books(const selection *chosen, book_test *test);
+
 /* Makes the test on the chosen books, whole, damaged and over the limits. Prints the first thing that was not ok of each book that failed; of the first few
    also the options by which the book comes last, and its bytes as tests/books has them. Then prints 'N passed, M failed', a count of books, those of
-   test_files before it included; the status of a program. */
+   test_files and test_grouped_books before it included; the status of a program. */
 int test_books(const selection *chosen, book_test *test);
 
 /* 1 and a printed line where a count is 0 though the books are enough, else 0. */

@@ -40,86 +40,88 @@ static size_t draw_list(source *s, const uint8_t *found, size_t count, unsigned 
     return len;
 }
 
-/* The judge's buffers, filled beforehand, and its answer. */
-typedef struct {
-    uint8_t order[ROOM], cycle[ROOM];
-    deck_judgement answer;
-} judging;
-
-enum { ORDER_FILL = 0xa5, CYCLE_FILL = 0x5a };
-
-static void fill_buffers(judging *j) {
-    memset(j->order, ORDER_FILL, ROOM);
-    memset(j->cycle, CYCLE_FILL, ROOM);
-}
-
-/* The first bytes of the buffers are the evidence, those behind it as they were. */
-static int filled(const judging *j, size_t order_count, size_t cycle_count) {
-    return untouched(j->order, order_count, ROOM, ORDER_FILL) && untouched(j->cycle, cycle_count, ROOM, CYCLE_FILL);
-}
-
-/* The evidence of a verdict: the run numbers of the order, or the places of the cycle; none where the judge refused. */
-typedef struct {
-    int passed;
-    size_t count;
-    uint8_t list[DECK_STEPS];
-} evidence;
-
-/* Compares what the judge answered of a book, or what it refused it by, and every byte of its buffers. */
-static evidence compare_judgement(const judging *j, const plain_book *b, plain_refusal r, const char *what) {
-    const deck_judgement *a = &j->answer;
-    evidence e = {0};
-    uint8_t order[DECK_STEPS], cycle[DECK_STEPS];
-    int count;
+static void compare_judge(const uint8_t *book, size_t len, const plain_book *b, plain_refusal r, uint8_t *found, int *count, int *passed) {
+    uint8_t order[ROOM], cycle[ROOM], plain_order[DECK_STEPS], plain_cycle[DECK_STEPS];
+    memset(order, 0xa5, ROOM);
+    memset(cycle, 0x5a, ROOM);
+    deck_judgement j = deck_judge(book, len, order, ROOM, cycle, ROOM);
+    *count = 0;
+    *passed = 0;
     if (r.number) {
-        expect(a->number == (uint64_t)r.number && a->place == r.place && a->verdict == DECK_REFUSED && a->count == 0 && filled(j, 0, 0), what);
-        return e;
+        expect(j.number == (uint64_t)r.number && j.place == r.place && j.verdict == DECK_REFUSED && j.count == 0, "judge: refusal");
+        expect(untouched(order, 0, ROOM, 0xa5) && untouched(cycle, 0, ROOM, 0x5a), "judge: buffers of a refusal");
+        return;
     }
-    e.passed = plain_judge(b, order, cycle, &count);
-    expect(a->number == 0 && a->place == 0 && a->verdict == (e.passed ? DECK_PASSED : DECK_TANGLED), what);
-    if (e.passed) {
-        e.count = (size_t)count;
-        memcpy(e.list, order, e.count);
-        expect(a->count == e.count && memcmp(j->order, order, e.count) == 0 && filled(j, e.count, 0), what);
-    } else if (expect(a->count <= DECK_STEPS && plain_cycle_check(b, j->cycle, a->count) && filled(j, 0, a->count), what)) {
-        e.count = a->count;
-        memcpy(e.list, j->cycle, e.count);
+    *passed = plain_judge(b, plain_order, plain_cycle, count);
+    verdicts[*passed]++;
+    expect(j.number == 0 && j.place == 0 && j.verdict == (*passed ? DECK_PASSED : DECK_TANGLED), "judge: verdict");
+    if (*passed) {
+        expect(j.count == (uint64_t)*count && memcmp(order, plain_order, (size_t)*count) == 0, "judge: order");
+        expect(untouched(order, (size_t)*count, ROOM, 0xa5) && untouched(cycle, 0, ROOM, 0x5a), "judge: buffers of a pass");
+        memcpy(found, order, (size_t)*count);
+    } else {
+        if (!expect(j.count <= DECK_STEPS && plain_cycle_check(b, cycle, j.count), "judge: cycle"))
+            return;
+        *count = (int)j.count;
+        expect(untouched(cycle, j.count, ROOM, 0x5a) && untouched(order, 0, ROOM, 0xa5), "judge: buffers of a tangle");
+        memcpy(found, cycle, j.count);
     }
-    return e;
 }
 
-/* The evidence is right by the checks too, on the bytes of the book. */
-static void compare_evidence(const uint8_t *book, size_t len, const evidence *e, const char *what) {
-    plain_refusal accepted = {0};
-    compare_answer((e->passed ? deck_check_order : deck_check_cycle)(book, len, e->list, e->count), accepted, 1, what);
-}
-
-static evidence compare_judge(const uint8_t *book, size_t len, const plain_book *b, plain_refusal r) {
-    judging j;
-    fill_buffers(&j);
-    j.answer = deck_judge(book, len, j.order, ROOM, j.cycle, ROOM);
-    evidence e = compare_judgement(&j, b, r, "judge");
-    verdicts[e.passed] += !r.number;
-    return e;
+static void compare_short_buffers(source *s, const uint8_t *book, size_t len) {
+    uint8_t order[ROOM], cycle[ROOM];
+    size_t a = below(s, DECK_BUFFER), b = below(s, ROOM);
+    memset(order, 1, ROOM);
+    memset(cycle, 1, ROOM);
+    deck_judgement j = below(s, 2) ? deck_judge(book, len, order, a, cycle, b) : deck_judge(book, len, order, b, cycle, a);
+    expect(j.number == DECK_JUDGE_BUFFER_SHORT && j.place == 0 && j.verdict == DECK_REFUSED && j.count == 0, "judge: short buffer");
+    expect(untouched(order, 0, ROOM, 1) && untouched(cycle, 0, ROOM, 1), "judge: short buffers unchanged");
 }
 
 /* The runs whose island is asked for: each that a book can have, those behind it, and the last. */
 static const uint8_t asked[] = {0, 1, 2, 3, 4, 5, 6, 7, 8, 9, 10, 11, 12, 13, 14, 15, 16, 17, UINT8_MAX};
 enum { ASKED = sizeof asked };
 
-static void compare_short_buffers(source *s, const uint8_t *book, size_t len) {
-    const plain_refusal r = {DECK_JUDGE_BUFFER_SHORT, 0};
-    size_t a = below(s, DECK_BUFFER), b = below(s, ROOM);
-    int first = (int)below(s, 2); /* which of the buffers is short */
-    size_t order_len = first ? a : b, cycle_len = first ? b : a;
-    judging j;
-    fill_buffers(&j);
-    j.answer = deck_judge(book, len, j.order, order_len, j.cycle, cycle_len);
-    compare_judgement(&j, NULL, r, "judge: short buffer");
-    for (int k = 0; k < ASKED; k++) {
-        j.answer = deck_judge_island(book, len, asked[k], j.order, order_len, j.cycle, cycle_len);
-        compare_judgement(&j, NULL, r, "judge of an island: short buffer");
+/* The buffers of an island's judge, filled beforehand, and its answer. */
+typedef struct {
+    uint8_t order[ROOM], cycle[ROOM];
+    deck_judgement answer;
+} judging;
+
+static void judge_island(const uint8_t *book, size_t len, uint8_t run, size_t order_len, size_t cycle_len, judging *j) {
+    memset(j->order, 0xa5, ROOM);
+    memset(j->cycle, 0x5a, ROOM);
+    j->answer = deck_judge_island(book, len, run, j->order, order_len, j->cycle, cycle_len);
+}
+
+/* The first bytes of the buffers are the evidence, those behind it as they were. */
+static int filled(const judging *j, size_t order_count, size_t cycle_count) {
+    return untouched(j->order, order_count, ROOM, 0xa5) && untouched(j->cycle, cycle_count, ROOM, 0x5a);
+}
+
+static void compare_refused_judging(const judging *j, plain_refusal r, const char *what) {
+    const deck_judgement *a = &j->answer;
+    expect(a->number == (uint64_t)r.number && a->place == r.place && a->verdict == DECK_REFUSED && a->count == 0 && filled(j, 0, 0), what);
+}
+
+/* Compares the verdict on an island and its evidence, which is right by the checks too, on the bytes of the book with the island's history. Answers whether
+   the island is passed. */
+static int compare_verdict(const judging *j, const plain_book *island) {
+    static uint8_t bytes[BOOK_ROOM];
+    uint8_t order[DECK_STEPS], cycle[DECK_STEPS];
+    const deck_judgement *a = &j->answer;
+    const plain_refusal accepted = {0};
+    size_t len = plain_write(island, bytes);
+    int count, passed = plain_judge(island, order, cycle, &count);
+    judged_islands[passed]++;
+    expect(a->number == 0 && a->place == 0 && a->verdict == (passed ? DECK_PASSED : DECK_TANGLED), "judge of an island: verdict");
+    if (passed) {
+        expect(a->count == (uint64_t)count && memcmp(j->order, order, (size_t)count) == 0 && filled(j, (size_t)count, 0), "judge of an island: order");
+        compare_answer(deck_check_order(bytes, len, order, (size_t)count), accepted, 1, "judge of an island: order check of its order");
+    } else if (expect(a->count <= DECK_STEPS && plain_cycle_check(island, j->cycle, a->count) && filled(j, 0, a->count), "judge of an island: cycle")) {
+        compare_answer(deck_check_cycle(bytes, len, j->cycle, a->count), accepted, 1, "judge of an island: cycle check of its cycle");
     }
+    return passed;
 }
 
 /* Compares the list of a book's islands, or what it is refused by. */
@@ -134,9 +136,9 @@ static void compare_island_list(const uint8_t *book, size_t len, const plain_boo
     expect(memcmp(&got, &want, sizeof want) == 0, "islands: the list");
 }
 
-/* Compares the history of an island and the verdict on it, or what both are refused by; `island` is the book with that history. */
-static evidence compare_island(const uint8_t *book, size_t len, uint8_t run, const plain_book *island, plain_refusal r) {
-    static uint8_t bytes[BOOK_ROOM];
+/* Compares the history of an island and the verdict on it, or what both are refused by; `island` is the book with that history. Answers whether the island
+   is passed. */
+static int compare_island(const uint8_t *book, size_t len, uint8_t run, const plain_book *island, plain_refusal r) {
     deck_island_steps want = {.number = (uint64_t)r.number, .place = r.place}, got = deck_island_history(book, len, run);
     judging j;
     if (!r.number) {
@@ -144,14 +146,22 @@ static evidence compare_island(const uint8_t *book, size_t len, uint8_t run, con
         memcpy(want.history, island->history, sizeof want.history);
     }
     expect(memcmp(&got, &want, sizeof want) == 0, "islands: a history");
-    fill_buffers(&j);
-    j.answer = deck_judge_island(book, len, run, j.order, ROOM, j.cycle, ROOM);
-    evidence e = compare_judgement(&j, island, r, "judge of an island");
-    if (!r.number) {
-        compare_evidence(bytes, plain_write(island, bytes), &e, "judge of an island: its evidence");
-        judged_islands[e.passed]++;
+    judge_island(book, len, run, ROOM, ROOM, &j);
+    if (!r.number)
+        return compare_verdict(&j, island);
+    compare_refused_judging(&j, r, "judge of an island: refusal");
+    return 0;
+}
+
+static void compare_short_island_buffers(source *s, const uint8_t *book, size_t len) {
+    const plain_refusal r = {DECK_JUDGE_BUFFER_SHORT, 0};
+    size_t a = below(s, DECK_BUFFER), b = below(s, ROOM);
+    int first = (int)below(s, 2); /* which of the buffers is short */
+    judging j;
+    for (int k = 0; k < ASKED; k++) {
+        judge_island(book, len, asked[k], first ? a : b, first ? b : a, &j);
+        compare_refused_judging(&j, r, "judge of an island: short buffer");
     }
-    return e;
 }
 
 /* Counts an accepted book by its islands, of which so many are tangled. */
@@ -180,12 +190,15 @@ static void count_islands(const plain_book *b, const plain_islands *found, int t
     island_books[ISLANDS_UNDONE] += undone > 0;
 }
 
-/* Compares the islands of a book, which is passed or not, and the calls on each run asked for. */
-static void compare_islands(const uint8_t *book, size_t len, const plain_book *b, plain_refusal r, int passed) {
+/* Compares the islands of a book, and the calls on each run asked for. It draws from a copy, so that the draws to come are as without it. */
+static void compare_islands(const source *s, const uint8_t *book, size_t len, const plain_book *b, plain_refusal r) {
+    uint8_t order[DECK_BUFFER], cycle[DECK_BUFFER];
     plain_islands found = {0};
+    source copy = *s;
     int tangled = 0;
     if (!r.number)
         found = plain_find_islands(b);
+    compare_short_island_buffers(&copy, book, len);
     compare_island_list(book, len, b, r, &found);
     for (int k = 0; k < ASKED; k++) {
         plain_book island;
@@ -193,7 +206,7 @@ static void compare_islands(const uint8_t *book, size_t len, const plain_book *b
             compare_island(book, len, asked[k], NULL, r);
         } else if (plain_names_island(b, &found, asked[k])) {
             island = plain_island_book(b, &found, asked[k]);
-            tangled += !compare_island(book, len, asked[k], &island, r).passed;
+            tangled += !compare_island(book, len, asked[k], &island, r);
         } else {
             compare_island(book, len, asked[k], NULL, (plain_refusal){DECK_NO_ISLAND, 0});
             no_islands[asked[k] < b->runs]++;
@@ -201,8 +214,15 @@ static void compare_islands(const uint8_t *book, size_t len, const plain_book *b
     }
     if (r.number)
         return;
-    expect(passed == (tangled == 0), "islands: the history is passed exactly when that of every island is");
+    deck_judgement whole = deck_judge(book, len, order, sizeof order, cycle, sizeof cycle);
+    expect(whole.verdict == (tangled ? DECK_TANGLED : DECK_PASSED), "islands: the history is passed exactly when that of every island is");
     count_islands(b, &found, tangled);
+}
+
+void compare_islands_alone(source *s, const uint8_t *book, size_t len) {
+    plain_book b;
+    plain_refusal r = plain_read(book, len, &b);
+    compare_islands(s, book, len, &b, r);
 }
 
 static void compare_writer(source *s, const uint8_t *book, size_t len, plain_refusal r) {
@@ -600,20 +620,20 @@ static void compare_arcs(const uint8_t *book, size_t len, const plain_book *b, c
 }
 
 void compare_book(source *s, const uint8_t *book, size_t len, const plain_book *b, plain_refusal r) {
-    uint8_t list[ROOM];
+    uint8_t found[DECK_STEPS], list[ROOM];
+    int count, passed;
     books_by_number[r.number]++;
     compare_answer(deck_read(book, len), r, b->n, "reader");
-    const evidence e = compare_judge(book, len, b, r);
+    compare_judge(book, len, b, r, found, &count, &passed);
     compare_short_buffers(s, book, len);
-    compare_islands(book, len, b, r, e.passed);
     compare_answer(deck_serial(book, len), r, r.number ? 0 : plain_serial(b), "serial");
     compare_answer(deck_atomic(book, len), r, r.number ? 0 : plain_atomic(b), "atomic");
     compare_answer(deck_relserial(book, len), r, r.number ? 0 : plain_relserial(b), "relserial");
     compare_answer(deck_conflict(book, len), r, r.number ? 0 : plain_conflict(b), "conflict");
     for (int k = 0; k < 3; k++) {
-        size_t n = draw_list(s, e.list, e.passed ? e.count : 0, (unsigned)(r.number ? DECK_RUNS : b->runs), list);
+        size_t n = draw_list(s, found, passed ? (size_t)count : 0, (unsigned)(r.number ? DECK_RUNS : b->runs), list);
         compare_answer(deck_check_order(book, len, list, n), r, r.number ? 0 : plain_order_check(b, list, n), "order check");
-        n = draw_list(s, e.list, e.passed ? 0 : e.count, (unsigned)(r.number ? DECK_STEPS : b->n), list);
+        n = draw_list(s, found, passed ? 0 : (size_t)count, (unsigned)(r.number ? DECK_STEPS : b->n), list);
         compare_answer(deck_check_cycle(book, len, list, n), r, r.number ? 0 : plain_cycle_check(b, list, n), "cycle check");
         unsigned places = r.number ? ROOM : (unsigned)b->n + 2;
         size_t x = below(s, places), y = below(s, places);
@@ -621,15 +641,18 @@ void compare_book(source *s, const uint8_t *book, size_t len, const plain_book *
         compare_arc(book, len, b, r, x, SIZE_MAX - y);
         compare_arc(book, len, b, r, SIZE_MAX - x, y);
     }
-    if (!r.number) {
-        compare_evidence(book, len, &e, "check of the judge's evidence");
-        compare_arcs(book, len, b, e.list, e.passed ? 0 : e.count);
-    }
+    if (!r.number && passed)
+        compare_answer(deck_check_order(book, len, found, (size_t)count), r, 1, "order check of the judge's order");
+    if (!r.number && !passed)
+        compare_answer(deck_check_cycle(book, len, found, (size_t)count), r, 1, "cycle check of the judge's cycle");
+    if (!r.number)
+        compare_arcs(book, len, b, found, passed ? 0 : (size_t)count);
     compare_writer(s, book, len, r);
     for (int k = 0; k < (soaking && !r.number ? SOAKING_LISTS : 1); k++)
         compare_gate(s, book, len, b, r);
     if (r.number)
         compare_refused_gate(book, len, r);
+    compare_islands(s, book, len, b, r);
 }
 
 enum { VERDICT, ORDER, RELSERIAL, CONFLICT, GATE, DIFFERENCES };

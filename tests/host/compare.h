@@ -9,6 +9,9 @@
    the book has none; it is compared with its own plain gate, by the rules as they are. */
 void compare_book(source *s, const uint8_t *book, size_t len, const plain_book *b, plain_refusal r);
 
+/* Compares the calls on islands alone; a book_test. It counts nothing but islands. */
+void compare_islands_alone(source *s, const uint8_t *book, size_t len);
+
 /* How lists of calls to a gate are drawn. 0: one for each book, of any length. 1: three for each accepted book, whose length goes by its steps and of which
    half begin with steps of its history. */
 extern int soaking;

@@ -59,6 +59,7 @@ static void compare(source *s, const uint8_t *book, size_t len) {
 int main(int argc, char **argv) {
     selection chosen = by_default(SEED, BOOKS);
     read_options(argc, argv, "", 0, 0, &chosen);
+    test_grouped_books(&chosen, compare_islands_alone);
     int status = test_books(&chosen, compare);
     printf("altered records: %ld not sound, %ld sound\n", altered_records[0], altered_records[1]);
     status |= none(altered_records[0], "altered records", "with one that is not sound");

@@ -83,6 +83,7 @@ int main(int argc, char **argv) {
     chosen.each = EACH;
     read_options(argc, argv, "", 0, 0, &chosen);
     soaking = 1;
+    test_grouped_books(&chosen, compare_islands_alone);
     int status = test_books(&chosen, compare);
     status |= print_by_steps("accepted books", "of", books_by_steps);
     status |= print_count("  passed", verdicts[1]);
