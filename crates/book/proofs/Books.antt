@@ -15,7 +15,7 @@ use Rattle.book.specs.Format.{kind_limit, run_limit, run_step_limit, step_limit,
 use Rattle.book.specs.Book.{book_of_tables, pairs_size, cuts_size, run_cuts, code_limit, set_pairs, set_runs, set_cuts, set_history, flagged, pair_of, cut_of, step_coded, contents_of, Flags, RunsValid, HistoryValid, Valid, Represents}
 use Rattle.book.specs.Inner.Room.{Next, RoomFlag, RoomStep, RoomDone}
 use Rattle.book.specs.declared.Book.{Book}
-use Rattle.theory.proofs.Lists.{take_more, take_last, take_last_set, get_d_front, sum_snoc, sum_set, sum_le, sum_lt, count_snoc, map_snoc}
+use Rattle.theory.proofs.Lists.{take_more, take_last, take_last_set, get_or_front, sum_snoc, sum_set, sum_le, sum_lt, count_snoc, map_snoc}
 use Rattle.book.proofs.Groups.{last_snoc, lengths_runs, length_lengths, runs_snoc, runs_more, flagged_more, flags_set, column_set, column_more, above_pair_index, above_cut_index}
 
 -- the codes of t steps
@@ -29,14 +29,14 @@ module _ (ls ss : List ℕ) (d t : ℕ) (v : RunsValid ls ss d t) where
 -- the counts of done steps beside the lengths of runs
 module _ (ls ss ns h : List ℕ) (d t k : ℕ) (v : RunsValid ls ss d t) (w : HistoryValid ls ns h k) where
   counts_within : (r : ℕ) → get_or ns r 0 ≤ get_or (take d ls) r 0
-  counts_within r = rw (get_d_front d ls v.lengths.blank r) (w.within r)
+  counts_within r = rw (get_or_front d ls v.lengths.blank r) (w.within r)
 
   pub counts_few : k ≤ t
   counts_few = omega (arith, sum_le ns (take d ls) counts_within, v.total, w.total)
 
   -- a run that has a step left leaves one in all
   pub count_below : (r : ℕ) → get_or ns r 0 < get_or ls r 0 → k < t
-  count_below r l = omega (arith, sum_lt ns (take d ls) r counts_within (rw (get_d_front d ls v.lengths.blank r) l), v.total, w.total)
+  count_below r l = omega (arith, sum_lt ns (take d ls) r counts_within (rw (get_or_front d ls v.lengths.blank r) l), v.total, w.total)
 
 -- the contents of a valid book, by its fields
 module _ (b : Book) (v : Valid b) where
@@ -54,7 +54,7 @@ module _ (b : Book) (v : Valid b) where
   last_is h = ap last (lengths_are ∙ lengths_last b.lengths b.steps b.declared b.total v.runs h) ∙ last_snoc (take (b.declared - 1) b.lengths) (get_or b.lengths (b.declared - 1) 0)
 
   pub length_is : (r : ℕ) → get_or (lengths (contents_of b).runs) r 0 ≡ get_or b.lengths r 0
-  length_is r = ap (λ (l : List ℕ). get_or l r 0) lengths_are ∙ get_d_front b.declared b.lengths v.runs.lengths.blank r
+  length_is r = ap (λ (l : List ℕ). get_or l r 0) lengths_are ∙ get_or_front b.declared b.lengths v.runs.lengths.blank r
 
   pub history_is : (contents_of b).history ≡ take b.done b.history
   unfolding contents_of

@@ -13,7 +13,7 @@ use Rattle.theory.specs.Deck.{Pair, Step, Cut}
 use Rattle.book.specs.Format.{kind_limit, run_limit, run_step_limit, step_limit, Contents, lengths}
 use Rattle.book.specs.Book.{book_of_tables, run_cuts, code_limit, flagged, pair_of, cut_of, step_coded, runs_of_lengths, contents_of, Column, Valid}
 use Rattle.book.specs.declared.Book.{Book}
-use Rattle.theory.proofs.Lists.{get_d_front}
+use Rattle.theory.proofs.Lists.{get_or_front}
 use Rattle.book.proofs.Codes.{code_of_step, code_back}
 use Rattle.book.proofs.Books.{codes_long, lengths_are, runs_are, sum_is, history_is, history_long}
 
@@ -48,7 +48,7 @@ flags_same i (x ∷ xs) (y ∷ ys) e f g m = go (flags_same (suc i) xs ys (omega
 -- a column is known by its front
 column_same : (n limit end : ℕ) (xs ys : List ℕ) → Column n limit end xs → Column n limit end ys → take end xs ≡ take end ys → xs ≡ ys
 column_same n limit end xs ys v w e = ext_get_or 0 xs ys (v.long ∙ sym w.long)
-    (λ i h. sym (get_d_front end xs v.blank i) ∙ ap (λ (l : List ℕ). get_or l i 0) e ∙ get_d_front end ys w.blank i)
+    (λ i h. sym (get_or_front end xs v.blank i) ∙ ap (λ (l : List ℕ). get_or l i 0) e ∙ get_or_front end ys w.blank i)
 
 -- runs put together again
 joined : List (List Step) → List Step

@@ -69,6 +69,13 @@ same_numbers Accepted = refl
 pub opened_with : (s : List ℕ) (o : Opened) → OpenedAs (read s) o → (n : Answered) → n ≡ answered (answer_numbers o.answer) → OpenCall s (record { number = n.number; place = n.place; gate = o.gate })
 opened_with s o w n e = record { opened = o; promise = w; numbers = rw (e, ← same_numbers o.answer) }
 
+module _ (s : List ℕ) (o : Opened) (w : OpenedAs (read s) o) where
+  pub open_refused : (cause : Cause) (at n : ℕ) → o.answer ≡ Refused cause at → n ≡ number cause → OpenCall s (record { number = n; place = at; gate = o.gate })
+  open_refused cause at n e f = record { opened = o; promise = w; numbers = rw (e, f) }
+
+  pub open_accepted : o.answer ≡ Accepted → OpenCall s (record { number = 0; place = 0; gate = o.gate })
+  open_accepted e = record { opened = o; promise = w; numbers = rw e }
+
 pub islands_with : (s : List ℕ) (x : IslandList) → IslandsListed s x → (n : Answered) → n ≡ answered (answer_numbers x.answer)
     → IslandsCall s (record { number = n.number; place = n.place; runs = x.runs; count = x.count; smallest = x.smallest; list = x.list })
 islands_with s x w n e = record { islands = x; promise = w; numbers = rw e }

@@ -1,3 +1,3 @@
 -- Laws: one law for each enum whose answer becomes numbers, for each way out of reading and judging, and for what is handed back beside an answer's
--- numbers; an entry's contract is the promise of the call behind it and that law. Live: the walk of the calls on a gate that is held.
+-- numbers; an entry's contract is the promise of the call behind it and that law.
 pub mod Laws

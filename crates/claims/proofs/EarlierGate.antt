@@ -51,7 +51,7 @@ module _ (c : Contents) where
 
   -- ---- calls in turn
 
-  -- a call that is no take_back
+  -- a call that is no take-back
   other_call : (x : Call) {xs : List Call} → NoTakeBack (x ∷ xs) → (r : ℕ) × StepsOrWithdraws r x
   other_call (step r) n = (r, is_step)
   other_call (withdraw r) n = (r, is_withdrawal)

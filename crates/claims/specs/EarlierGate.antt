@@ -47,7 +47,7 @@ pub data EarlierCalls (c : Contents) : EarlierState → List Call → List Answe
 abbrev pub earlier_state : State → EarlierState
 earlier_state g = record { kept = g.kept; withdrawn = g.withdrawn }
 
--- no call of the list is a take_back
+-- no call of the list is a take-back
 abbrev pub NoTakeBack : List Call → Type 0
 NoTakeBack calls = (i r : ℕ) → ¬ At calls i (take_back r)
 
@@ -55,6 +55,6 @@ pub record GateAsBefore : Type 0 where
   -- A step or a withdrawal answers as before and leaves the kept list and the withdrawn runs as before; the runs taken back stay as they are.
   pub as_before : (c : Contents) (g h : State) (x : Call) (a : Answer) (r : ℕ) → StepsOrWithdraws r x
       → PlainCall c g x a h ↔ (EarlierCall c (earlier_state g) x a (earlier_state h) × (h.taken_back ≡ g.taken_back))
-  -- So does a list of calls without a take_back, from a newly opened gate on, as from any state.
+  -- So does a list of calls without a take-back, from a newly opened gate on, as from any state.
   pub lists_as_before : (c : Contents) (g h : State) (calls : List Call) (answers : List Answer) → NoTakeBack calls
       → PlainCalls c g calls answers h ↔ (EarlierCalls c (earlier_state g) calls answers (earlier_state h) × (h.taken_back ≡ g.taken_back))

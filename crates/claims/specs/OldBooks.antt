@@ -73,11 +73,11 @@ module _ (earlier : List Pair → List (List Step) → ℕ → ℕ → ℕ → �
         → BytesJudged order order' cycle cycle' s r ↔ JudgedAs (earlier_of c) (unit_of c) c.history order order' cycle cycle' r.verdict r.count
     pub deck_judging : (order order' cycle cycle' : List ℕ) (r : Judged) → step_limit ≤ length order → step_limit ≤ length cycle
         → JudgeCall s order order' cycle cycle' r ↔ DeckJudgedBefore c order order' cycle cycle' r
-    -- the tests: P is what one asks of a book b by a conflict k. Relatively serial: RelativelySerial k (unit-of b) b.history; conflict serializable:
-    -- ConflictSerializable k b.history; order check and cycle check: RelativelySerialOrder and Cycle of k (unit-of b) b.history
+    -- the tests: P is what one asks of a book b by a conflict k. Relatively serial: RelativelySerial k (unit_of b) b.history; conflict serializable:
+    -- ConflictSerializable k b.history; order check and cycle check: RelativelySerialOrder and Cycle of k (unit_of b) b.history
     pub testing : (P : (ℕ → ℕ → ℕ → ℕ → Bool) → Contents → Type 0) (r : Tested) → TestedAs (λ b. P (conflict_of b) b) s r ↔ TestedAs (λ b. P (earlier_of b) b) s r
     pub deck_testing : (P : (ℕ → ℕ → ℕ → ℕ → Bool) → Contents → Type 0) (r : Answered) → TestCall (λ b. P (conflict_of b) b) s r ↔ TestCall (λ b. P (earlier_of b) b) s r
-    -- the arc test: N names the arcs of a book b by a conflict k, names-of k (unit-of b) b.history from one place to another
+    -- the arc test: N names the arcs of a book b by a conflict k, names_of k (unit_of b) b.history from one place to another
     pub naming : (N : (ℕ → ℕ → ℕ → ℕ → Bool) → Contents → ArcNames) (r : Named) → NamedAs (λ b. N (conflict_of b) b) s r ↔ NamedAs (λ b. N (earlier_of b) b) s r
     pub deck_naming : (N : (ℕ → ℕ → ℕ → ℕ → Bool) → Contents → ArcNames) (r : Answered) → NameCall (λ b. N (conflict_of b) b) s r ↔ NameCall (λ b. N (earlier_of b) b) s r
     -- the program's text

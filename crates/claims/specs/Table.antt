@@ -53,7 +53,7 @@ pub data StepsOrWithdraws (r : ℕ) : Call → Type 0 where
   is_step : StepsOrWithdraws r (step_call r)
   is_withdrawal : StepsOrWithdraws r (withdraw_call r)
 
--- step, withdraw and take back on a record: 26 comes first, then 20; then for a step or a withdrawal 21, 22 and, for a step, 23; for a take_back 32
+-- step, withdraw and take back on a record: 26 comes first, then 20; then for a step or a withdrawal 21, 22 and, for a step, 23; for a take-back 32
 pub data GateRow (g : Gate) : Call → ℕ → ℕ → Type 0 where
   -- 20: run not declared
   row_20 : {x : Call} → Sound g → length (book_of g).runs ≤ run_called x → GateRow g x 20 0
@@ -81,7 +81,7 @@ pub data NoCallAt : List ℕ → ℕ → Type 0 where
 -- the replay of a list of calls: the book's come first, then 24, then 25
 pub data ReplayRow (s calls answers : List ℕ) : ℕ → ℕ → Type 0 where
   replayed_book : {n place : ℕ} → BookRow s n place → ReplayRow s calls answers n place
-  -- 24: no call, or a cut_off one; its offset in the list
+  -- 24: no call, or a cut-off one; its offset in the list
   no_call : {at : ℕ} → NoRow s → NoCallAt calls at → ReplayRow s calls answers 24 at
   -- 25: the buffer of answers under two bytes a call: shorter than the list
   answers_short : NoRow s → ((at : ℕ) → ¬ NoCallAt calls at) → length answers < length calls → ReplayRow s calls answers 25 0

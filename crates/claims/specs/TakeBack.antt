@@ -16,7 +16,7 @@ use Rattle.capi.specs.Calls.{GateCall}
 use Rattle.capi.specs.declared.Answered.{Answered}
 use Rattle.claims.specs.Lazy.{book_2}
 
--- what the take_back of run r leaves: the record was g, and is h
+-- what the take-back of run r leaves: the record was g, and is h
 pub record RunTakenBack (r : ℕ) (g h : Gate) : Type 0 where
   -- Its steps leave the kept list,
   pub steps_leave : count (state_of h).kept r ≡ 0
@@ -44,9 +44,9 @@ pub record TakeBacks : Type 0 where
   pub taken_back_withdrawn : (g : Gate) (r : ℕ) → Sound g → In r (state_of g).taken_back → In r (state_of g).withdrawn × (count (state_of g).kept r ≡ 0)
   pub later_steps : (g h : Gate) (r : ℕ) (a : Reply) → Sound g → r < length (book_of g).runs → In r (state_of g).taken_back → CalledAs g (step r) a h
       → (a ≡ Refused Withdrawn) × (h ≡ g)
-  -- In a list without a take_back that is carried out, a tangled step is never admitted later, as before.
+  -- In a list without a take-back that is carried out, a tangled step is never admitted later, as before.
   pub tangled_without : (s : List ℕ) (c : Contents) (calls : List Call) (answers : List Answer) (g : State) → Demand3 s c calls answers g
       → ((k : ℕ) → ¬ At answers k taken_back) → (i j r : ℕ) → i < j → At calls i (step r) → At answers i (refused (number Tangled)) → At calls j (step r) → ¬ Admitted answers j
-  -- Behind a take_back it may be: over the runs of row 2, uncut, the second step of run 0 is tangled, and is admitted once run 1 is taken back.
+  -- Behind a take-back it may be: over the runs of row 2, uncut, the second step of run 0 is tangled, and is admitted once run 1 is taken back.
   pub tangled_then_admitted : (s h : List ℕ) (answers : List Answer) (g : State) → Demand3 s (book_2 h) tangled_calls answers g
       → (answers ≡ place 0 ∷ place 1 ∷ place 2 ∷ refused 23 ∷ taken_back ∷ place 1 ∷ []) × (g.kept ≡ 0 ∷ 0 ∷ [])

@@ -1,5 +1,5 @@
--- The demands, that the classes are nested, the names of arcs, the one pass over a history, a run taken back, and a book's islands, of what the functions of this crate return
--- or leave in the tables lent to them: the results of the public calls, or answers as these promise them.
+-- The demands, that the classes are nested, the names of arcs, the one pass over a history, a run taken back, and a book's islands, of what the functions of
+-- this crate return or leave in the tables lent to them: the results of the public calls, or answers as these promise them.
 use Rattle.std.specs.Prelude.{ℕ, ◌*◌, ◌/◌, ◌≤◌, ◌<◌, ◌≡◌, ◌↔◌, Bool, true, false, List, [], ◌∷◌, ◌++◌, length, get_or, take}
 use Rattle.bits.specs.Table.{row_words}
 use Rattle.buffer.specs.Put.{Put}

@@ -2,7 +2,8 @@
 // `nested_deck_classes` and `nested_text` ask for the classes of a book and ensure that they are nested; `named_arcs` asks for the arcs from one place to
 // another and ensures that they are all that hold, `lettered_text` makes the text and ensures that each letter under a cycle is the first that holds;
 // `feed_step` has one more step of a history read, and ensures what the one pass over it promises; `run_taken_back` takes a run back, and ensures what that
-// does; `islands_judged` judges a book and each of its islands, and ensures that the whole is passed exactly when each is. `claims` states all this, and proves it of whatever meets the calls' contracts.
+// does; `islands_judged` judges a book and each of its islands, and ensures that the whole is passed exactly when each is. `claims` states all this, and proves
+// it of whatever meets the calls' contracts.
 #![tactic(auto)]
 
 ghost use Rattle.book.specs.Book.{Valid, as_step, outcome_by};

@@ -228,7 +228,7 @@ module _ (g : Gate) (r i : ℕ) (y : Sound g) (e : i ≡ r) where
           };
         }
 
--- ---- a take_back
+-- ---- a take-back
 
 module _ (g : Gate) (r i : ℕ) (y : Sound g) (e : i ≡ r) where
   pub take_back_undeclared : g.book.declared ≤ i → SoundCall g (take_back r) (Refused NotDeclared) g

@@ -7,11 +7,11 @@ use Rattle.book.specs.Format.{run_limit, step_limit}
 abbrev pub units_size : ℕ
 units_size = step_limit * run_limit
 
--- for each place p of `from` up to `to` and each run o, at p * run-limit + o of t stands a place f with E o p f
+-- for each place p of `from` up to `to` and each run o, at p * run_limit + o of t stands a place f with E o p f
 pub record EachPlace (E : ℕ → ℕ → ℕ → Type 0) (from to : ℕ) (t : List ℕ) : Type 0 where
   pub at : (p o : ℕ) → from ≤ p → p < to → o < run_limit → E o p (get_or t (p * run_limit + o) 0)
 
--- at p * run-limit + o of t stands the first, or the last, place of p's unit as seen by run o
+-- at p * run_limit + o of t stands the first, or the last, place of p's unit as seen by run o
 abbrev pub Firsts : (ℕ → ℕ → ℕ → ℕ) → List ℕ → List ℕ → Type 0
 Firsts unit h = EachPlace (FirstOf unit h) 0 (length h)
 

@@ -118,13 +118,13 @@ module _ (catalogue links t : List ℕ) (r s : ℕ) where
 -- ---- the names of an array
 
 -- a place inside a list does not rest on what stands for those outside
-get_d_any : (l : List ℕ) (i d e : ℕ) → i < length l → get_or l i d ≡ get_or l i e
-get_d_any [] i d e h = absurd (not-suc-le-zero h)
-get_d_any (x ∷ l) zero d e h = refl
-get_d_any (x ∷ l) (suc i) d e h = get_d_any l i d e (le_of_suc-le-suc h)
+get_or_any : (l : List ℕ) (i d e : ℕ) → i < length l → get_or l i d ≡ get_or l i e
+get_or_any [] i d e h = absurd (not-suc-le-zero h)
+get_or_any (x ∷ l) zero d e h = refl
+get_or_any (x ∷ l) (suc i) d e h = get_or_any l i d e (le_of_suc-le-suc h)
 
 pub name_inside : (t : List ℕ) (k : ℕ) → length t ≡ run_limit → k < run_limit → name_in t k ≡ get_or t k 0
-name_inside t k l h = get_d_any t k k 0 (omega arith)
+name_inside t k l h = get_or_any t k k 0 (omega arith)
 
 pub name_outside : (t : List ℕ) (k : ℕ) → length t ≡ run_limit → run_limit ≤ k → name_in t k ≡ k
 name_outside t k l h = get_or-eq_default t k (omega arith)

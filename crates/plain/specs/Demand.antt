@@ -58,7 +58,7 @@ pub record Demand3 (s : List ℕ) (c : Contents) (calls : List Call) (answers : 
       → At answers i (refused (number Tangled)) ↔ (¬ RelativelySerializable (conflict_of c) (unit_of c) (m.kept ++ r ∷ []))
   -- Once a run is withdrawn, no step call for it later in the list is admitted.
   pub withdrawn_stays : (i j r : ℕ) (x : Call) (a : Answer) → Withdraws r x a → i < j → At calls i x → At answers i a → At calls j (step r) → ¬ Admitted answers j
-  -- Once a step call is refused as tangled, no step call for the same run later in the list is admitted, up to the next take_back. A refused take_back
+  -- Once a step call is refused as tangled, no step call for the same run later in the list is admitted, up to the next take-back. A refused take-back
   -- changes nothing, and does not count as one.
   pub tangled_stays : (i j r : ℕ) → i < j → At calls i (step r) → At answers i (refused (number Tangled)) → At calls j (step r)
       → ((k : ℕ) → i < k → k < j → ¬ At answers k taken_back) → ¬ Admitted answers j

@@ -74,7 +74,7 @@ module _ (c : Contents) (g : State) where
     pub declared : r < length c.runs
     pub not_taken_back : ¬ In r g.taken_back
 
-  -- of a take_back 20 and 32, in that order: run not declared, run taken back already
+  -- of a take-back 20 and 32, in that order: run not declared, run taken back already
   pub data TakeBackRefusal (r : ℕ) : Cause → Type 0 where
     undeclared : length c.runs ≤ r → TakeBackRefusal r NotDeclared
     was_taken_back : r < length c.runs → In r g.taken_back → TakeBackRefusal r TakenBack

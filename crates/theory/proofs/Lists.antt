@@ -121,12 +121,12 @@ sum_zeros zero = refl
 sum_zeros (suc n) = omega (arith, sum_zeros n)
 
 -- a list that is 0 from n on has in its first n elements all that it has
-pub get_d_front : (n : ℕ) (l : List ℕ) → ((i : ℕ) → n ≤ i → ◌≡◌ {A = ℕ} (get_or l i 0) 0) → (i : ℕ) → get_or (take n l) i 0 ≡ get_or l i 0
-get_d_front zero [] f i = refl
-get_d_front zero (x ∷ l) f i = sym (f i zero-le)
-get_d_front (suc n) [] f i = refl
-get_d_front (suc n) (x ∷ l) f zero = refl
-get_d_front (suc n) (x ∷ l) f (suc i) = get_d_front n l (λ k h. f (suc k) (suc-le-suc h)) i
+pub get_or_front : (n : ℕ) (l : List ℕ) → ((i : ℕ) → n ≤ i → ◌≡◌ {A = ℕ} (get_or l i 0) 0) → (i : ℕ) → get_or (take n l) i 0 ≡ get_or l i 0
+get_or_front zero [] f i = refl
+get_or_front zero (x ∷ l) f i = sym (f i zero-le)
+get_or_front (suc n) [] f i = refl
+get_or_front (suc n) (x ∷ l) f zero = refl
+get_or_front (suc n) (x ∷ l) f (suc i) = get_or_front n l (λ k h. f (suc k) (suc-le-suc h)) i
 
 pub sum_front : (n : ℕ) (l : List ℕ) → ((i : ℕ) → n ≤ i → ◌≡◌ {A = ℕ} (get_or l i 0) 0) → sum (take n l) ≡ sum l
 sum_front n [] f = rw take-nil

@@ -14,7 +14,7 @@ use Rattle.dependence.specs.Dependence.{KindsLow}
 pub record Small (m : ℕ) (l : List ℕ) : Type 0 where
   pub small : (i : ℕ) → get_or l i 0 < m
 
--- the first n of history are the run numbers of a history in which no run has more than run-step-limit steps
+-- the first n of history are the run numbers of a history in which no run has more than run_step_limit steps
 pub record HistoryOf (history : List ℕ) (n : ℕ) : Type 0 where
   pub long : length history ≡ step_limit
   pub within : n ≤ step_limit
