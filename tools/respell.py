@@ -21,8 +21,8 @@ DECLARED = re.compile(r"^\s*(?:(?:abbrev|unfoldable|pub|data|record|ruleset)\s+)
 MODULES = {"inner": "Inner"}
 # names that only a `use` line or a local block gives
 LOCAL = """at-0 call-link conflict-by earlier-rules from-f from-o gate-demand is-a is-p is-r is-s long-cycle next-call no-calls plain-all-kept plain-not-declared plain-was-withdrawn refused-by-number same-contents take-back-call test-last to-f to-o withdraw-call yes-all""".split()
-# names whose new spelling the library has for something else
-OWN = {"bit-and": "bit_of_and", "bit-or": "bit_of_or"}
+# names whose new spelling the library has for something else, and two that port.py splits
+OWN = {"bit-and": "bit_of_and", "bit-or": "bit_of_or", "get_d-front": "get_or_front", "get_d-any": "get_or_any"}
 
 
 def files(*ends):
