@@ -185,6 +185,7 @@ pub fn is_valid(b: Book) -> bool
 }
 
 // Whether each run taken back is withdrawn and has no step kept.
+#[tactic(auto, using(crate::proofs::Scans::not_withdrawn, crate::proofs::Scans::step_kept_of_it))]
 pub fn taken_back_agree(
     taken_back: [u8; Book::RUNS],
     withdrawn: [u8; Book::RUNS],
