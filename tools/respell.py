@@ -5,7 +5,8 @@ usage: python3 tools/respell.py [TOP]
 
 Run once, after port.py, over crates/, README.md and docs/. In specs/ and proofs/ it respells each name that is declared there with a dash; in the files
 proofs/F/Proof.antt, whose answers have names that the check makes, only names declared elsewhere. In comments and pages it respells a name only between
-backquotes. Strings, names of src/, exported names, inputs and outputs stay. It stops before it writes if two names would fall together in a file.
+backquotes. Strings, names of src/, exported names, inputs and outputs stay. It prints each pair of names that
+fall together in a file and goes on: whoever runs it looks whether they mean one thing there.
 """
 import os
 import re
