@@ -1,8 +1,6 @@
 -- The first column of a set.
-use Rattle.std.specs.Prelude.{◌≡◌, ℕ, ◌<◌}
+use Rattle.std.specs.Prelude.{◌≡◌, ℕ, ◌<◌, Option, Some, None}
 use Rattle.bits.specs.Table.{row_bits}
-use Rattle.bits.specs.declared.Found.{Found}
-use Rattle.bits.specs.declared.Found.TheVariants.{At, Nothing}
 
 -- c is the first column of f
 pub record FirstAt (f : ℕ → ℕ) (c : ℕ) : Type 0 where
@@ -15,6 +13,6 @@ pub record NoColumn (f : ℕ → ℕ) : Type 0 where
   pub none : (j : ℕ) → j < row_bits → f j ≡ 0
 
 -- what a search of f for its first column finds
-abbrev pub First : (ℕ → ℕ) → Found → Type 0
-First f (At c) = FirstAt f c
-First f Nothing = NoColumn f
+abbrev pub First : (ℕ → ℕ) → Option ℕ → Type 0
+First f (Some c) = FirstAt f c
+First f None = NoColumn f

@@ -1,6 +1,6 @@
 -- The codes of steps: each step has one of its own, and each code below the limit is that of a step.
-use Prim.Native.Nat.{ℕ, zero, suc, ◌+◌, ◌-◌, ◌*◌, ◌/◌, ◌%◌, ◌≤◌, ◌<◌}
-use mathlib.Core.Path.{◌≡◌, refl, ap, sym, ◌∙◌}
+use Prim.Native.Nat.{ℕ, zero, suc, ◌+◌, ◌*◌, ◌/◌, ◌%◌, ◌<◌}
+use mathlib.Core.Path.{◌≡◌, refl, ap, ◌∙◌}
 use mathlib.Core.Bool.{◌&&◌}
 use native.Mathlib.Omega.{arith}
 use Rattle.theory.specs.Deck.{Touch, Step, single, transfer}
@@ -65,26 +65,9 @@ code_back c = go (c / touch_limit) refl
     go zero e = touch (c % touch_limit) ∙ omega arith
     go (suc q) e = omega (arith, touch q, touch (c % touch_limit))
 
--- ---- what the functions answer
-
-pub single_code : (x : StepValue) (t : TouchValue) (n : ℕ) → x ≡ Single t → n ≡ touch_code t → n ≡ step_code x
-single_code x t n e h = rw e h
-
-pub transfer_code : (x : StepValue) (t u : TouchValue) (n m : ℕ) → x ≡ Transfer t u → m ≡ touch_code u → n ≡ touch_code t → (m + 1) * touch_limit + n ≡ step_code x
-transfer_code x t u n m e h k = rw (e, h, k)
-
--- what `kinds_low` answers
+-- whether the kinds of a step are below their limit
 pub single_kinds : (x : StepValue) (t : TouchValue) (n : ℕ) → x ≡ Single t → n ≡ t.kind → ltb n kind_limit ≡ kinds_low (as_step x)
 single_kinds x t n e h = rw (e, h)
 
 pub transfer_kinds : (x : StepValue) (t u : TouchValue) (n m : ℕ) → x ≡ Transfer t u → n ≡ t.kind → m ≡ u.kind → (ltb n kind_limit && ltb m kind_limit) ≡ kinds_low (as_step x)
 transfer_kinds x t u n m e h k = rw (e, h, k)
-
-module _ (c : ℕ) (t : TouchValue) (e : as_touch t ≡ touch_coded (c % touch_limit)) where
-  pub single_coded : c < touch_limit → as_step (Single t) ≡ step_coded c
-  single_coded l = let q : c / touch_limit ≡ 0 = omega arith in rw (q, e)
-
-  pub transfer_coded : (u : TouchValue) → as_touch u ≡ touch_coded (c / touch_limit - 1) → touch_limit ≤ c → as_step (Transfer t u) ≡ step_coded c
-  transfer_coded u f l =
-      let q : c / touch_limit ≡ suc (c / touch_limit - 1) = omega arith in
-      sym (ap (step_with (touch_coded (c % touch_limit))) q ∙ rw (← e, ← f))

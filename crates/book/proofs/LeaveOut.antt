@@ -6,17 +6,15 @@ use mathlib.Core.List.{List, [], ◌∷◌, ◌++◌}
 use native.Mathlib.Omega.{arith}
 use native.Mathlib.Numerals.{add-one}
 use borrow.Author.Tests.{eq-eqb, ne_eqb}
-use mir.Val.{Fits}
-use mir.Syntax.{w8, w64}
 use lib.ListN.{length, length-append, get_or, take, drop, set, replicate}
-use lib.Seq.{take-suc, take_all, get_or-take, split_at, get_or_at}
+use lib.Seq.{take-suc, take_all, split_at, get_or_at}
 use Rattle.theory.specs.History.{only, project}
 use Rattle.theory.proofs.Within.{project_within, project_append}
 use Rattle.book.specs.Format.{run_limit, step_limit, with_history, Allowed}
 use Rattle.book.specs.Book.{set_history, unflagged, contents_of, Valid, Represents}
 use Rattle.book.specs.declared.Book.{Book}
-use Rattle.book.proofs.Books.{length_is, history_is, done_within, history_long, count_is}
-use Rattle.book.proofs.WithHistory.{Filled, none_filled, filled_place, filled_fits, filled_more, all_filled}
+use Rattle.book.proofs.Books.{length_is, history_is, history_long, count_is}
+use Rattle.book.proofs.WithHistory.{Filled, none_filled, filled_place, filled_more, all_filled}
 
 module _ (b : Book) (flags : List ℕ) where
   -- the steps that stay, of the first i of the history and of all
@@ -25,6 +23,9 @@ module _ (b : Book) (flags : List ℕ) where
 
   abbrev pub others : List ℕ
   others = project (unflagged flags) (contents_of b).history
+
+  abbrev pub items : List ℕ
+  items = take b.done b.history
 
   -- the first i of the history are gone through, and the tables hold the n of them that stay
   pub record LeftOut (ns h : List ℕ) (n i : ℕ) : Type 0 where
@@ -40,19 +41,12 @@ module _ (b : Book) (flags : List ℕ) where
     others_allowed : Allowed others (contents_of b)
     others_allowed r = omega (arith, project_within (unflagged flags) (contents_of b).history r, count_is b v r, v.history.within r, length_is b v r)
 
-    pub place_inside : (i : ℕ) → i < b.done → i < step_limit
-    place_inside i l = omega (arith, done_within b v)
-
-    module _ (ns h : List ℕ) (n i r : ℕ) (w : LeftOut ns h n i) (l : i < b.done) (e : r ≡ get_or b.history i 0) where
+    module _ (ns h : List ℕ) (n i r : ℕ) (w : LeftOut ns h n i) (l : i < length items) (e : r ≡ get_or items i 0) where
       run_is : get_or (contents_of b).history i 0 ≡ r
-      run_is = ap (λ (k : List ℕ). get_or k i 0) (history_is b v) ∙ get_or-take b.done b.history i 0 l ∙ sym e
+      run_is = ap (λ (k : List ℕ). get_or k i 0) (history_is b v) ∙ sym e
 
       inside : i < length (contents_of b).history
-      inside = omega (arith, history_long b v)
-
-      -- the run is one that has a flag
-      pub flag_inside : r < run_limit
-      flag_inside = omega (arith, v.history.history.small i)
+      inside = rw (history_is b v) l
 
       next_front : front (i + 1) ≡ front i ++ only (unflagged flags r) r []
       unfolding project
@@ -69,7 +63,7 @@ module _ (b : Book) (flags : List ℕ) where
       -- the step is left out
       pub one_left_out : (ns' h' : List ℕ) (n' : ℕ) → (get_or flags r 0 ≡ 0 → ⊥) → ns' ≡ ns → h' ≡ h → n' ≡ n → LeftOut ns' h' n' (i + 1)
       one_left_out ns' h' n' f p q s = rw (p, q, s) (record {
-        within = omega arith;
+        within = omega (arith, inside, history_long b v);
         place = ap length next_front ∙ rw (ne_eqb (get_or flags r 0) 0 f) (omega (arith, length-append (front i) [], w.place));
         filled = w.filled;
       })
@@ -88,19 +82,15 @@ module _ (b : Book) (flags : List ℕ) where
         pub stays_place : n < step_limit
         stays_place = filled_place b others ns h n r v others_allowed w.filled next_place next_is
 
-        pub stays_next : Fits w64 (n + 1)
-        stays_next = omega (arith, stays_place)
-
-        pub stays_fits : Fits w8 (get_or ns r 0 + 1)
-        stays_fits = filled_fits b others ns h n r v others_allowed w.filled next_place next_is
-
-        pub one_stays : (ns' h' : List ℕ) (n' : ℕ) → ns' ≡ set ns r (get_or ns r 0 + 1) → h' ≡ set h n (get_or b.history i 0) → n' ≡ n + 1 → LeftOut ns' h' n' (i + 1)
+        pub one_stays : (ns' h' : List ℕ) (n' : ℕ) → ns' ≡ set ns r (get_or ns r 0 + 1) → h' ≡ set h n (get_or items i 0) → n' ≡ n + 1 → LeftOut ns' h' n' (i + 1)
         one_stays ns' h' n' p q s = rw (p, q, s, ← e) (record {
-          within = omega arith;
+          within = omega (arith, inside, history_long b v);
           place = ap length next_front ∙ rw (eq-eqb (get_or flags r 0) 0 f) (omega (arith, length-append (front i) (r ∷ []), w.place));
           filled = rw (← next_is) at (filled_more b others ns h n r v others_allowed w.filled next_place next_is);
         })
 
     module _ (ns h : List ℕ) (n i : ℕ) (w : LeftOut ns h n i) where
-      pub all_left_out : b.done ≤ i → Represents (with_history (contents_of b) others) (set_history b ns h n)
-      all_left_out l = all_filled b others ns h n v w.filled (omega (arith, w.place, ap (λ (k : List ℕ). length (project (unflagged flags) k)) (take_all i (contents_of b).history (omega (arith, history_long b v)))))
+      pub all_left_out : length items ≤ i → Represents (with_history (contents_of b) others) (set_history b ns h n)
+      all_left_out l =
+          let all : length others ≡ n = ap (λ (k : List ℕ). length (project (unflagged flags) k)) (sym (take_all i (contents_of b).history (rw (history_is b v) l))) ∙ w.place in
+          rw all at (all_filled b others ns h n v w.filled (omega arith))

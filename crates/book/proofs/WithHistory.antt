@@ -4,8 +4,6 @@ use mathlib.Core.Path.{◌≡◌, refl, ap, sym, ◌∙◌}
 use mathlib.Core.List.{List, [], ◌∷◌, ◌++◌}
 use native.Mathlib.Omega.{arith}
 use native.Mathlib.Numerals.{add-one}
-use mir.Val.{Fits}
-use mir.Syntax.{w8}
 use lib.ListN.{length, get_or, take, set, replicate}
 use lib.Seq.{take-suc, take_all}
 use native.Mathlib.Decide.{dec_le}
@@ -41,9 +39,6 @@ module _ (b : Book) (list ns h : List ℕ) (n r : ℕ) (v : Valid b) (a : Allowe
   pub filled_place : n < step_limit
   filled_place = omega (arith, count_below b.lengths b.steps ns h b.declared b.total n v.runs f.valid r counted, v.runs.few_steps)
 
-  pub filled_fits : Fits w8 (get_or ns r 0 + 1)
-  filled_fits = omega (arith, counted, v.runs.lengths.small r)
-
   pub filled_more : Filled b list (set ns r (get_or ns r 0 + 1)) (set h n (get_or list n 0)) (n + 1)
   filled_more = record {
     within = omega arith;
@@ -52,9 +47,9 @@ module _ (b : Book) (list ns h : List ℕ) (n r : ℕ) (v : Valid b) (a : Allowe
   }
 
 module _ (b : Book) (list ns h : List ℕ) (n : ℕ) (v : Valid b) (f : Filled b list ns h n) where
-  pub all_filled : length list ≤ n → Represents (with_history (contents_of b) list) (set_history b ns h n)
+  pub all_filled : length list ≤ n → Represents (with_history (contents_of b) list) (set_history b ns h (length list))
   unfolding contents_of
-  all_filled l = record {
+  all_filled l = let all : length list ≡ n = omega (arith, f.within) in rw all (record {
     contents = rw (f.same, take_all n list l);
     valid = valid_history b _ _ _ v f.valid;
-  }
+  })

@@ -1,5 +1,5 @@
 -- What a `Book` means, which books are valid, group by group, and what the reader promises of the one that it hands back.
-use Rattle.std.specs.Prelude.{ℕ, zero, suc, ◌+◌, ◌*◌, ◌/◌, ◌%◌, ◌≤◌, ◌<◌, ◌≡◌, Bool, List, [], ◌∷◌, map, length, get_or, take, drop, replicate, eqb}
+use Rattle.std.specs.Prelude.{Result, Ok, Err, ℕ, zero, suc, ◌+◌, ◌*◌, ◌/◌, ◌%◌, ◌≤◌, ◌<◌, ◌≡◌, Bool, List, [], ◌∷◌, map, length, get_or, take, drop, replicate, eqb}
 use Rattle.theory.specs.Lists.{sum}
 use Rattle.theory.specs.History.{count}
 use Rattle.theory.specs.Deck.{Pair, Touch, Step, single, transfer, Cut}
@@ -10,9 +10,7 @@ use Rattle.book.specs.declared.Touch.{Touch as TouchValue}
 use Rattle.book.specs.declared.Step.{Step as StepValue}
 use Rattle.book.specs.declared.Step.TheVariants.{Single, Transfer}
 use Rattle.book.specs.declared.Book.{Book}
-use Rattle.book.specs.declared.Answer.{Answer}
-use Rattle.book.specs.declared.Answer.TheVariants.{Refused, Accepted}
-use Rattle.book.specs.declared.Reading.{Reading}
+use Rattle.book.specs.declared.Refusal.{Refusal}
 
 -- the book of these tables and counts
 abbrev pub book_of_tables : List ℕ → List ℕ → List ℕ → List ℕ → List ℕ → List ℕ → ℕ → ℕ → ℕ → Book
@@ -162,16 +160,21 @@ pub record Represents (d : Contents) (b : Book) : Type 0 where
 unfoldable pub empty_book : Book
 empty_book = book_of_tables (replicate pairs_size 0) (replicate cuts_size 0) (replicate step_limit 0) (replicate run_limit 0) (replicate run_limit 0) (replicate step_limit 0) 0 0 0
 
-abbrev pub outcome_by : Answer → Book → Outcome
-outcome_by (Refused cause place) b = refused cause place
-outcome_by Accepted b = accepted (contents_of b)
+-- a refusal by a cause, at a place
+abbrev pub refusal_at : Cause → ℕ → Refusal
+refusal_at cause place = record { cause = cause; place = place }
 
 -- what a reading says
-abbrev pub outcome_of : Reading → Outcome
-outcome_of r = outcome_by r.answer r.book
+abbrev pub outcome_of : Result Book Refusal → Outcome
+outcome_of (Ok b) = accepted (contents_of b)
+outcome_of (Err e) = refused e.cause e.place
 
--- a reading of this outcome, with a valid book; where it is refused, the empty one
-pub record ReadAs (o : Outcome) (r : Reading) : Type 0 where
-  pub outcome : outcome_of r ≡ o
-  pub valid : Valid r.book
-  pub empty : (cause : Cause) (place : ℕ) → o ≡ refused cause place → r.book ≡ empty_book
+-- a valid book of the contents that the outcome accepts
+pub record AcceptedAs (o : Outcome) (b : Book) : Type 0 where
+  pub outcome : o ≡ accepted (contents_of b)
+  pub valid : Valid b
+
+-- a reading of this outcome
+abbrev pub ReadAs : Outcome → Result Book Refusal → Type 0
+ReadAs o (Ok b) = AcceptedAs o b
+ReadAs o (Err e) = o ≡ refused e.cause e.place

@@ -1,9 +1,8 @@
 -- The number of each cause of refusal (document 01, "When something is turned away"; document 02, changes 1, 7 and 8), and an answer in numbers.
-use Rattle.std.specs.Prelude.{ℕ, ◌≡◌, length}
+use Rattle.std.specs.Prelude.{Result, Ok, Err, ℕ, ◌≡◌, length}
 use Rattle.book.specs.Format.{Outcome, refused, accepted}
-use Rattle.book.specs.declared.Answer.{Answer}
-use Rattle.book.specs.declared.Answer.TheVariants.{Refused, Accepted}
 use Rattle.book.specs.declared.Cause.{Cause}
+use Rattle.book.specs.declared.Refusal.{Refusal}
 use Rattle.book.specs.declared.Cause.TheVariants.{BookTooLong, NoCommand, EndsEarly, OutOfOrder, WrongKind, NotRising, WrongRun, TooManyRuns, RunTooLong, TooManySteps, WrongCut, NoStepLeft, BytesAfterEnd, JudgeBufferShort, WriterBufferShort, NotDeclared, Withdrawn, AllKept, Tangled, NoCall, AnswersShort, Damaged, NoIsland, TakenBack}
 
 abbrev pub number : Cause → ℕ
@@ -55,7 +54,11 @@ abbrev pub reading_numbers : Outcome → Numbers
 reading_numbers (refused cause place) = refused_with cause place
 reading_numbers (accepted c) = value_of (length c.history)
 
--- the answer of a call that hands back a value beside it has none
-abbrev pub answer_numbers : Answer → Numbers
-answer_numbers (Refused cause place) = refused_with cause place
-answer_numbers Accepted = value_of 0
+-- a call's answer in numbers, where v is the value of what it answers if it is not refused
+abbrev pub numbers_of : {A : Type 0} → (A → ℕ) → Result A Refusal → Numbers
+numbers_of v (Ok x) = value_of (v x)
+numbers_of v (Err e) = refused_with e.cause e.place
+
+-- of a call that answers no number, but what is handed back by itself
+abbrev pub answer_numbers : {A : Type 0} → Result A Refusal → Numbers
+answer_numbers = numbers_of (λ x. 0)

@@ -2,97 +2,72 @@
 // runs' steps left out of its own.
 #![tactic(auto)]
 
-ghost use Rattle.std.specs.Prelude.{◌≡◌, ◌+◌, ◌*◌, ◌<◌};
+ghost use Rattle.std.specs.Prelude.{Err, ◌≡◌, ◌+◌, ◌*◌, ◌<◌};
 ghost use Rattle.theory.specs.History.{project};
 ghost use Rattle.theory.specs.Deck.{home};
 ghost use Rattle.book.specs.Numbers.{number};
 ghost use Rattle.book.specs.Format.{kind_limit, position_limit, run_limit, run_step_limit, step_limit, length_limit, kinds_low, with_history, Allowed};
-ghost use Rattle.book.specs.Book.{touch_limit, code_limit, touch_coded, step_coded, as_touch, as_step, touch_code, step_code, unflagged, contents_of, empty_book, Valid, Represents};
+ghost use Rattle.book.specs.Book.{refusal_at, touch_limit, code_limit, touch_coded, step_coded, as_touch, as_step, touch_code, step_code, unflagged, contents_of, empty_book, Valid, Represents};
 
 // Why something is turned away: one for each row of document 01's table and each check of document 02, changes 1 and 7, two of the replay's own, one for a
 // gate's record that is not sound, and one for a run that is no island's smallest.
 #[derive(Clone, Copy)]
 pub enum Cause {
     // A book over the length limit.
-    BookTooLong,
+    BookTooLong = 1,
     // A byte that is no command.
-    NoCommand,
+    NoCommand = 2,
     // The book ends before 45 or inside operands.
-    EndsEarly,
+    EndsEarly = 3,
     // A command after a later group, or 53 or 54 before any 52.
-    OutOfOrder,
+    OutOfOrder = 4,
     // A kind above 15, or a above b.
-    WrongKind,
+    WrongKind = 5,
     // A pair or triple not above the one before.
-    NotRising,
+    NotRising = 6,
     // In 52 not the count so far; in 42 or 48 a run undeclared; in 42 r equal to o.
-    WrongRun,
+    WrongRun = 7,
     // A 17th run.
-    TooManyRuns,
+    TooManyRuns = 8,
     // A 33rd step of a run.
-    RunTooLong,
+    RunTooLong = 30,
     // A 129th step of the book.
-    TooManySteps,
+    TooManySteps = 31,
     // In 42, j is 0 or not below the steps of r.
-    WrongCut,
+    WrongCut = 9,
     // 48 for a run with no step left.
-    NoStepLeft,
+    NoStepLeft = 10,
     // Bytes after 45.
-    BytesAfterEnd,
+    BytesAfterEnd = 11,
     // The judge's order or cycle buffer under 128 bytes.
-    JudgeBufferShort,
+    JudgeBufferShort = 12,
     // The writer's buffer shorter than the book.
-    WriterBufferShort,
+    WriterBufferShort = 13,
     // Gate: run not declared.
-    NotDeclared,
+    NotDeclared = 20,
     // Gate: run withdrawn.
-    Withdrawn,
+    Withdrawn = 21,
     // Gate: all steps of the run kept.
-    AllKept,
+    AllKept = 22,
     // Gate: tangled.
-    Tangled,
+    Tangled = 23,
     // Replay: no call, or a cut-off one, at an offset of the list.
-    NoCall,
+    NoCall = 24,
     // Replay: the buffer of answers under two bytes a call.
-    AnswersShort,
+    AnswersShort = 25,
     // Gate: a table of the record out of range, or not in agreement with another.
-    Damaged,
+    Damaged = 26,
     // Islands: a run that is no island's smallest.
-    NoIsland,
+    NoIsland = 27,
     // Gate: run taken back already.
-    TakenBack,
+    TakenBack = 32,
 }
 
 // The number of a cause.
 pub fn number_of(cause: Cause) -> u8
     ensures { result ≡ number cause }
 {
-    match cause {
-        Cause::BookTooLong => 1,
-        Cause::NoCommand => 2,
-        Cause::EndsEarly => 3,
-        Cause::OutOfOrder => 4,
-        Cause::WrongKind => 5,
-        Cause::NotRising => 6,
-        Cause::WrongRun => 7,
-        Cause::TooManyRuns => 8,
-        Cause::RunTooLong => 30,
-        Cause::TooManySteps => 31,
-        Cause::WrongCut => 9,
-        Cause::NoStepLeft => 10,
-        Cause::BytesAfterEnd => 11,
-        Cause::JudgeBufferShort => 12,
-        Cause::WriterBufferShort => 13,
-        Cause::NotDeclared => 20,
-        Cause::Withdrawn => 21,
-        Cause::AllKept => 22,
-        Cause::Tangled => 23,
-        Cause::NoCall => 24,
-        Cause::AnswersShort => 25,
-        Cause::Damaged => 26,
-        Cause::NoIsland => 27,
-        Cause::TakenBack => 32,
-    }
+    cause as u8
 }
 
 // What a dialect of the format sets.
@@ -269,63 +244,60 @@ pub fn wide(x: u8) -> usize
     x as usize
 }
 
-// What reading a book answers: refused, with the cause and the place; or accepted.
+// A refusal: its cause, and its place in the bytes.
 #[derive(Clone, Copy)]
-pub enum Answer {
-    Refused(Cause, usize),
-    Accepted,
+pub struct Refusal {
+    pub cause: Cause,
+    pub place: usize,
 }
 
-// The answer, and the book; where it is refused, the empty book.
-#[derive(Clone, Copy)]
-pub struct Reading {
-    pub answer: Answer,
-    pub book: Book,
+// What a call answers that refuses by a cause, at a place.
+pub fn refused<T>(cause: Cause, place: usize) -> Result<T, Refusal>
+    ensures { result ≡ Err (refusal_at cause place) }
+{
+    Err(Refusal { cause, place })
 }
 
 // The book with a list of runs in place of its history, where no run stands in the list more often than it has steps.
-pub fn with_history(mut b: Book, list: &[u8]) -> Book
+pub fn with_history(b: Book, list: &[u8]) -> Book
     requires { Valid b × Allowed list.now (contents_of b) }
     ensures { Represents (with_history (contents_of b) list.now) result }
 {
-    let mut counts = [0u8; Book::RUNS];
-    let mut history = [0u8; Book::STEPS];
-    let mut n: usize = 0;
-    while n < list.len() {
-        let run = list[n];
-        let r = wide(run);
+    let mut counts = [0; Book::RUNS];
+    let mut history = [0; Book::STEPS];
+    for (n, &run) in list.iter().enumerate() {
         history[n] = run;
-        counts[r] += 1;
-        n += 1;
+        counts[wide(run)] += 1;
     }
-    b.counts = counts;
-    b.history = history;
-    b.done = n;
-    b
+    Book {
+        counts,
+        history,
+        done: list.len(),
+        ..b
+    }
 }
 
 // The book whose history lacks the steps of the runs whose flag is not 0; the others stay in order.
-pub fn leave_out(mut b: Book, flags: [u8; Book::RUNS]) -> Book
+#[tactic(auto, using(crate::proofs::Books::done_within))]
+pub fn leave_out(b: Book, flags: [u8; Book::RUNS]) -> Book
     requires { Valid b }
     ensures { Represents (with_history (contents_of b) (project (unflagged flags) (contents_of b).history)) result }
 {
-    let done = b.done;
-    let mut counts = [0u8; Book::RUNS];
-    let mut history = [0u8; Book::STEPS];
-    let mut n: usize = 0;
-    let mut i: usize = 0;
-    while i < done {
-        let run = b.history[i];
+    let mut counts = [0; Book::RUNS];
+    let mut history = [0; Book::STEPS];
+    let mut done: usize = 0;
+    for &run in &b.history[..b.done] {
         let r = wide(run);
         if flags[r] == 0 {
-            history[n] = run;
+            history[done] = run;
             counts[r] += 1;
-            n += 1;
+            done += 1;
         }
-        i += 1;
     }
-    b.counts = counts;
-    b.history = history;
-    b.done = n;
-    b
+    Book {
+        counts,
+        history,
+        done,
+        ..b
+    }
 }

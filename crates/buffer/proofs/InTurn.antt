@@ -1,6 +1,6 @@
 -- A loop that puts piece after piece into what is left of a buffer: what it has put after i of n pieces, and what room is left.
 use mathlib.Core.Path.{◌≡◌, refl, sym, ap, ap₂}
-use mathlib.Core.List.{List, [], ◌++◌, append_assoc, append-nil}
+use mathlib.Core.List.{List, ◌++◌, append_assoc, append-nil}
 use Prim.Native.Nat.{ℕ, zero, suc, ◌+◌, ◌-◌, ◌*◌, ◌≤◌, ◌<◌, zero-le}
 use native.Mathlib.Nat.{le_refl}
 use native.Mathlib.Numerals.{add-one}
@@ -10,15 +10,11 @@ use lib.Seq.{take-suc, take-length}
 use borrow.Rule.Slice.PartMut.{mid_of, put_mid}
 use Rattle.buffer.specs.Put.{Put}
 use Rattle.buffer.specs.Each.{each}
+use Rattle.buffer.specs.Parts.{parts}
 use Rattle.buffer.proofs.PutLaws.{behind, none, length_left, put_length}
 use Rattle.buffer.proofs.EachLaws.{each_snoc}
 
 -- ---- the pieces
-
--- the first n pieces, one after another, the i-th being f i
-abbrev pub parts : (ℕ → List ℕ) → ℕ → List ℕ
-parts f zero = []
-parts f (suc n) = parts f n ++ f n
 
 pub parts_equal : (f g : ℕ → List ℕ) (n : ℕ) → ((k : ℕ) → k < n → f k ≡ g k) → parts f n ≡ parts g n
 parts_equal f g zero e = refl

@@ -1,16 +1,12 @@
--- How puts compose: a few bytes at the front of a buffer, and one put behind another.
+-- How puts compose: no bytes, one put behind another, and what room is left.
 use mathlib.Core.Path.{◌≡◌, refl, sym, ap, ◌∙◌}
 use mathlib.Core.List.{List, [], ◌++◌, append_assoc, append-nil}
 use Prim.Native.Nat.{ℕ, ◌+◌, ◌-◌, ◌≤◌}
 use native.Mathlib.Omega.{arith}
 use lib.ListN.{length, take, drop, length-append, length-drop, length-take, drop_of_length-le}
-use lib.Seq.{sets, sets-eq, take_at, drop_at, take_all, drop-drop}
+use lib.Seq.{take_at, drop_at, take_all, drop-drop}
 use borrow.Rule.Slice.PartMut.{mid_of, put_mid}
 use Rattle.buffer.specs.Put.{Put}
-
--- stores of vs from the front on
-pub front : (vs l : List ℕ) → length vs ≤ length l → Put vs l (sets l 0 vs) (length vs)
-front vs l h = let e : 0 + length vs ≡ length vs = omega arith in record { bytes = sets-eq vs l 0 (rw e h) ∙ rw e; count = refl }
 
 pub none : (l : List ℕ) → Put [] l l 0
 none l = record { bytes = refl; count = refl }
@@ -31,6 +27,10 @@ behind {xs} {bs} {before} {mid} {part} {n} {k} p q =
 
 pub put_is : {xs ys before after : List ℕ} {r : ℕ} → Put xs before after r → xs ≡ ys → Put ys before after r
 put_is p e = rw (← e) p
+
+-- room for bytes that are the same
+pub room_is : {xs ys : List ℕ} {n : ℕ} → length xs ≤ n → xs ≡ ys → length ys ≤ n
+room_is h e = rw (← e) h
 
 -- what is left of a buffer
 pub length_left : (n : ℕ) (l : List ℕ) → length (mid_of n (length l - n) l) ≡ length l - n

@@ -1,27 +1,23 @@
 -- What each call for C promises: the numbers of an answer that meets the promise of the call behind it.
-use Rattle.std.specs.Prelude.{ℕ, ◌≡◌, List}
+use Rattle.std.specs.Prelude.{Result, ℕ, ◌≡◌, List}
 use Rattle.book.specs.Format.{Contents, read}
-use Rattle.book.specs.Numbers.{reading_numbers, answer_numbers}
-use Rattle.classes.specs.Tested.{tested_numbers, TestedAs}
-use Rattle.classes.specs.declared.Tested.{Tested}
+use Rattle.book.specs.Numbers.{reading_numbers}
+use Rattle.book.specs.declared.Refusal.{Refusal}
+use Rattle.classes.specs.Tested.{Tested, tested_numbers, TestedAs}
 use Rattle.names.specs.declared.ArcNames.{ArcNames}
-use Rattle.evidence.specs.Named.{named_numbers, NamedAs}
-use Rattle.evidence.specs.declared.Named.{Named}
+use Rattle.evidence.specs.Named.{Named, named_numbers, NamedAs}
 use Rattle.plain.specs.Plain.{Call}
-use Rattle.gate.specs.Gate.{reply_numbers, opening_numbers, OpenedAs, CalledAs}
+use Rattle.gate.specs.Gate.{Replied, reply_numbers, opening_numbers, OpenedAs, CalledAs}
 use Rattle.replay.specs.Replay.{played_numbers, Replays}
 use Rattle.gate.specs.declared.Gate.{Gate}
 use Rattle.gate.specs.declared.Opened.{Opened}
-use Rattle.gate.specs.declared.Reply.{Reply}
 use Rattle.replay.specs.declared.Replayed.{Replayed}
-use Rattle.judge.specs.Judged.{verdict_numbers}
+use Rattle.judge.specs.Judged.{JudgeAnswer, verdict_numbers, count_of, verdict_of}
 use Rattle.judge.specs.Judge.{BytesJudged}
-use Rattle.judge.specs.declared.Judgement.{Judgement}
 use Rattle.islands.specs.Islands.{IslandsListed, IslandHistory, IslandJudged}
 use Rattle.islands.specs.declared.IslandList.{IslandList}
 use Rattle.islands.specs.declared.IslandSteps.{IslandSteps}
-use Rattle.writer.specs.Written.{written_numbers, Wrote}
-use Rattle.writer.specs.declared.Written.{Written}
+use Rattle.writer.specs.Written.{Written, written_numbers, Wrote}
 use Rattle.capi.specs.Numbers.{answered, judged, opened_gate, listed_islands, listed_steps}
 use Rattle.capi.specs.declared.Answered.{Answered}
 use Rattle.capi.specs.declared.Judged.{Judged}
@@ -44,9 +40,9 @@ pub record NameCall (N : Contents → ArcNames) (s : List ℕ) (r : Answered) : 
   pub numbers : r ≡ answered (named_numbers named)
 
 pub record JudgeCall (s order order' cycle cycle' : List ℕ) (r : Judged) : Type 0 where
-  pub judgement : Judgement
+  pub judgement : JudgeAnswer
   pub promise : BytesJudged order order' cycle cycle' s judgement
-  pub numbers : r ≡ judged (verdict_numbers judgement.verdict) judgement.count
+  pub numbers : r ≡ judged (verdict_numbers (verdict_of judgement)) (count_of judgement)
 
 pub record WriteCall (s before after : List ℕ) (r : Answered) : Type 0 where
   pub written : Written
@@ -60,7 +56,7 @@ pub record OpenCall (s : List ℕ) (r : OpenedGate) : Type 0 where
 
 -- of the record at entry and at exit
 pub record GateCall (x : Call) (g h : Gate) (r : Answered) : Type 0 where
-  pub reply : Reply
+  pub reply : Replied
   pub promise : CalledAs g x reply h
   pub numbers : r ≡ answered (reply_numbers reply)
 
@@ -70,17 +66,17 @@ pub record ReplayCall (s calls before after : List ℕ) (r : Answered) : Type 0 
   pub numbers : r ≡ answered (played_numbers replayed.played)
 
 pub record IslandsCall (s : List ℕ) (r : ListedIslands) : Type 0 where
-  pub islands : IslandList
+  pub islands : Result IslandList Refusal
   pub promise : IslandsListed s islands
   pub numbers : r ≡ listed_islands islands
 
 -- of the island whose smallest run is m
 pub record IslandHistoryCall (s : List ℕ) (m : ℕ) (r : ListedSteps) : Type 0 where
-  pub steps : IslandSteps
+  pub steps : Result IslandSteps Refusal
   pub promise : IslandHistory s m steps
   pub numbers : r ≡ listed_steps steps
 
 pub record IslandJudgeCall (s : List ℕ) (m : ℕ) (order order' cycle cycle' : List ℕ) (r : Judged) : Type 0 where
-  pub judgement : Judgement
+  pub judgement : JudgeAnswer
   pub promise : IslandJudged order order' cycle cycle' s m judgement
-  pub numbers : r ≡ judged (verdict_numbers judgement.verdict) judgement.count
+  pub numbers : r ≡ judged (verdict_numbers (verdict_of judgement)) (count_of judgement)

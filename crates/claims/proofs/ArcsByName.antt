@@ -1,4 +1,5 @@
 -- The arc test's names are what holds, and a letter of the program's line is the first of them: on a cycle one holds.
+use Rattle.std.specs.Prelude.{Result, Err, Ok}
 use Prim.Native.Nat.{ℕ, zero, suc, ◌-◌, ◌≤◌, ◌<◌}
 use native.Mathlib.Nat.{not-suc-le-zero}
 use native.Mathlib.Omega.{arith}
@@ -13,18 +14,17 @@ use Rattle.theory.specs.Rows.{Is}
 use Rattle.theory.proofs.Decided.{arc_source, arc_target}
 use Rattle.book.specs.Format.{Contents, Outcome, refused, accepted, read}
 use Rattle.book.specs.Numbers.{Numbers, value_of}
+use Rattle.book.specs.Book.{refusal_at}
+use Rattle.book.specs.declared.Refusal.{Refusal}
 use Rattle.book.specs.Meaning.{conflict_of, unit_of}
 use Rattle.names.specs.Names.{names_value, cycle_names}
 use Rattle.names.specs.declared.ArcNames.{ArcNames}
 use Rattle.names.specs.Inner.Tables.{no_names}
 use Rattle.names.proofs.NameLaws.{is_i, is_d, is_f, is_b}
 use Rattle.names.proofs.CycleNames.{named_length, named_next, named_back}
-use Rattle.classes.specs.Tested.{tested_numbers, YesWhere, OutcomeTested, TestedAs}
-use Rattle.classes.specs.declared.Tested.{Tested}
-use Rattle.classes.specs.declared.Tested.TheVariants.{Yes, No, Refused as NotTested}
-use Rattle.evidence.specs.Named.{named_numbers, OutcomeNamed, NamedAs}
-use Rattle.evidence.specs.declared.Named.{Named}
-use Rattle.evidence.specs.declared.Named.TheVariants.{Arcs, Refused as NotNamed}
+use Rattle.classes.specs.Tested.{Tested, Yes, tested_numbers, YesWhere, OutcomeTested, TestedAs}
+use Rattle.evidence.specs.Named.{Named, named_numbers, OutcomeNamed, NamedAs}
+use Rattle.judge.specs.Judged.{count_of}
 use Rattle.judge.specs.declared.Verdict.{Verdict}
 use Rattle.judge.specs.declared.Verdict.TheVariants.{Passed, Tangled}
 use Rattle.report.specs.Text.{Findings, accepted_with, Verdict as ReportVerdict, tangled, first_letter, done_line, serial_line, atomic_line, relserial_line, conflict_line, verdict_line, evidence_line, arcs_line, text_of}
@@ -39,7 +39,7 @@ use Rattle.claims.proofs.Demands.{demand_2, deck_demand_2}
 
 -- ---- what is said of an accepted book
 
-named_of : (N : Contents → ArcNames) (s : List ℕ) (c : Contents) → read s ≡ accepted c → (r : Named) → NamedAs N s r → r ≡ Arcs (N c)
+named_of : (N : Contents → ArcNames) (s : List ℕ) (c : Contents) → read s ≡ accepted c → (r : Named) → NamedAs N s r → r ≡ Ok (N c)
 named_of N s c e r w = subst (λ (o : Outcome). OutcomeNamed o N r) e w.named
 
 module _ (c : Contents) (x y : ℕ) where
@@ -94,13 +94,13 @@ module _ (s : List ℕ) (x y : ℕ) (r : Named) (t : Tested) (w : NamedAs (arcs_
   yes_before : (t ≡ Yes) ↔ ((named_numbers r).value ≢ 0)
   yes_before = go (read s) w.named v.tested
     where
-      refused_no : (n : Named) (cause : _) (at : ℕ) → n ≡ NotNamed cause at → (named_numbers n).value ≢ 0 → ⊥
+      refused_no : (n : Named) (cause : _) (at : ℕ) → n ≡ Err (refusal_at cause at) → (named_numbers n).value ≢ 0 → ⊥
       refused_no n cause at e ne = ne (ap (λ (z : Named). (named_numbers z).value) e)
 
       tested : (c : Contents) (a : Tested) → YesWhere (ArcFrom x y c) a → (a ≡ Yes) ↔ ArcFrom x y c
-      tested c (NotTested cause at) z = absurd z
-      tested c Yes z = (λ e. z, λ k. refl)
-      tested c No z = (λ e. absurd (let q : ◌≡◌ {A = ℕ} 0 1 = cc in omega arith), λ k. absurd (z k))
+      tested c (Err refusal) z = absurd z
+      tested c (Ok true) z = (λ e. z, λ k. refl)
+      tested c (Ok false) z = (λ e. absurd (let q : ◌≡◌ {A = ℕ} 0 1 = cc in omega arith), λ k. absurd (z k))
 
       go : (o : Outcome) → OutcomeNamed o (arcs_from x y) r → OutcomeTested o (ArcFrom x y) t → (t ≡ Yes) ↔ ((named_numbers r).value ≢ 0)
       go (refused cause at) n a = (
@@ -118,9 +118,9 @@ module _ (s : List ℕ) (x y : ℕ) (r : Named) (t : Tested) (w : NamedAs (arcs_
   refused_before = go (read s) w.named v.tested
     where
       accepted_numbers : (c : Contents) (a : Tested) → YesWhere (ArcFrom x y c) a → ((tested_numbers a).number ≡ 0) × ((tested_numbers a).place ≡ 0)
-      accepted_numbers c (NotTested cause at) z = absurd z
-      accepted_numbers c Yes z = (refl, refl)
-      accepted_numbers c No z = (refl, refl)
+      accepted_numbers c (Err refusal) z = absurd z
+      accepted_numbers c (Ok true) z = (refl, refl)
+      accepted_numbers c (Ok false) z = (refl, refl)
 
       go : (o : Outcome) → OutcomeNamed o (arcs_from x y) r → OutcomeTested o (ArcFrom x y) t → ((named_numbers r).number ≡ (tested_numbers t).number) × ((named_numbers r).place ≡ (tested_numbers t).place)
       go (refused cause at) n a =
@@ -139,9 +139,9 @@ module _ (s : List ℕ) (x y : ℕ) (r t : Answered) (w : NameCall (arcs_from x 
   tested = ap answered_numbers v.numbers
 
   yes_is_1 : (a : Tested) → (a ≡ Yes) ↔ ((tested_numbers a).value ≡ 1)
-  yes_is_1 (NotTested cause at) = (λ e. absurd (let q : ◌≡◌ {A = ℕ} 0 1 = cc in omega arith), λ e. absurd (omega arith))
-  yes_is_1 Yes = (λ e. refl, λ e. refl)
-  yes_is_1 No = (λ e. absurd (let q : ◌≡◌ {A = ℕ} 0 1 = cc in omega arith), λ e. absurd (omega arith))
+  yes_is_1 (Err refusal) = (λ e. absurd (let q : ◌≡◌ {A = ℕ} 0 1 = cc in omega arith), λ e. absurd (omega arith))
+  yes_is_1 (Ok true) = (λ e. refl, λ e. refl)
+  yes_is_1 (Ok false) = (λ e. absurd (let q : ◌≡◌ {A = ℕ} 0 1 = cc in omega arith), λ e. absurd (omega arith))
 
   deck_yes_before : ((answered_numbers t).value ≡ 1) ↔ ((answered_numbers r).value ≢ 0)
   deck_yes_before = rw (ap (λ (k : Numbers). k.value) named, ap (λ (k : Numbers). k.value) tested) (
@@ -168,9 +168,9 @@ module _ (c : Contents) where
 
 -- a test of two properties that are the same
 same_answer : {P Q : Type 0} → P ↔ Q → (r : Tested) → YesWhere P r → YesWhere Q r
-same_answer e (NotTested cause at) w = absurd w
-same_answer e Yes w = e.0 w
-same_answer e No w = λ q. w (e.1 q)
+same_answer e (Err refusal) w = absurd w
+same_answer e (Ok true) w = e.0 w
+same_answer e (Ok false) w = λ q. w (e.1 q)
 
 same_test : (P Q : Contents → Type 0) → ((c : Contents) → P c ↔ Q c) → (s : List ℕ) (r : Tested) → TestedAs P s r → TestedAs Q s r
 same_test P Q e s r w = record { tested = go (read s) w.tested }
@@ -185,7 +185,7 @@ same_call P Q e s r w = record { tested = w.tested; promise = same_test P Q e s 
 other_way : {P Q : Contents → Type 0} → ((c : Contents) → P c ↔ Q c) → (c : Contents) → Q c ↔ P c
 other_way e c = ((e c).1, (e c).0)
 
-not_passed : {v : Verdict} → v ≡ Tangled → v ≢ Passed
+not_passed : {v : Result Verdict Refusal} → v ≡ Ok Tangled → v ≢ Ok Passed
 not_passed t p = let z : ◌≡◌ {A = ℕ} 0 1 = cc in omega arith
 
 not_1 : {n : Numbers} → n ≡ value_of 2 → n ≢ value_of 1
@@ -286,7 +286,7 @@ arcs_by_name = record {
     same_call (λ c. CycleByNames c l) (CycleBefore l) (λ c. same_cycles c l) s r,
     same_call (CycleBefore l) (λ c. CycleByNames c l) (other_way (λ c. same_cycles c l)) s r,
   );
-  judged_by_names = λ s c e order order' cycle cycle' r a b j t. (same_cycles c (take r.count cycle')).1 ((demand_2 s c e order order' cycle cycle' r a b j).cycle_returned (not_passed t));
+  judged_by_names = λ s c e order order' cycle cycle' r a b j t. (same_cycles c (take (count_of r) cycle')).1 ((demand_2 s c e order order' cycle cycle' r a b j).cycle_returned (not_passed t));
   deck_judged_by_names = λ s c e order order' cycle cycle' r a b j t. (same_cycles c (take r.count cycle')).1 ((deck_demand_2 s c e order order' cycle cycle' r a b j).cycle_returned (not_1 t));
   lettered = text_lettered;
 }

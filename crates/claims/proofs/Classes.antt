@@ -1,5 +1,6 @@
 -- The classes are nested, as the calls answer: each answer says that the bytes are an accepted book whose history is in a class, and theory has the
 -- classes nested. Rows 3, 6 and 8 are among theory's twelve, and their books are read by computation.
+use Rattle.std.specs.Prelude.{Result, Err, Ok}
 use Prim.Native.Nat.{ℕ}
 use native.Mathlib.Omega.{arith}
 use mathlib.Core.Path.{◌≡◌, refl, sym, subst, ap, ◌∙◌}
@@ -15,15 +16,13 @@ use Rattle.book.specs.Format.{Contents, with_cuts, Outcome, refused, accepted, o
 use Rattle.book.specs.Numbers.{Numbers, value_of}
 use Rattle.book.specs.declared.Cause.{Cause}
 use Rattle.book.specs.Meaning.{conflict_of, unit_of, SerialHistory, RelativelyAtomicHistory, RelativelySerialHistory, ConflictSerializableHistory, RelativelySerializableHistory}
-use Rattle.judge.specs.Judged.{verdict_numbers}
+use Rattle.judge.specs.Judged.{JudgeAnswer, verdict_numbers, verdict_of}
 use Rattle.judge.specs.Judge.{OutcomeJudged}
-use Rattle.judge.specs.declared.Judgement.{Judgement}
+use Rattle.book.specs.declared.Refusal.{Refusal}
 use Rattle.judge.specs.declared.Verdict.{Verdict}
-use Rattle.judge.specs.declared.Verdict.TheVariants.{Refused as NotJudged, Passed, Tangled}
+use Rattle.judge.specs.declared.Verdict.TheVariants.{Passed, Tangled}
 use Rattle.judge.proofs.Uncut.{bytes_passed}
-use Rattle.classes.specs.Tested.{tested_numbers, OutcomeTested, TestedAs}
-use Rattle.classes.specs.declared.Tested.{Tested}
-use Rattle.classes.specs.declared.Tested.TheVariants.{Refused, Yes, No}
+use Rattle.classes.specs.Tested.{Tested, Yes, No, tested_numbers, OutcomeTested, TestedAs}
 use Rattle.report.specs.Text.{Findings, Report, accepted_with, Verdict as ReportVerdict, passed, tangled}
 use Rattle.report.specs.Reporting.{VerdictOn, FindingsOn, ReportOn, Reports}
 use Rattle.capi.specs.Calls.{TestCall}
@@ -56,18 +55,18 @@ module _ (P : Contents → Type 0) (s : List ℕ) where
     where
       go : (o : Outcome) → read s ≡ o → (r : Tested) → OutcomeTested o P r → (r ≡ Yes) ↔ InClass P s
       go (refused cause place) e r t = (λ y. absurd (let f = t.refusal in let z : ◌≡◌ {A = ℕ} 0 1 = cc in omega arith), λ w. absurd (no_class cause place e w))
-      go (accepted c) e (Refused cause place) t = absurd t
-      go (accepted c) e Yes t = (λ y. record { held = c; book = e; holds = t }, λ w. refl)
-      go (accepted c) e No t = (λ y. absurd (let z : ◌≡◌ {A = ℕ} 0 1 = cc in omega arith), λ w. absurd (t (class_of c e w)))
+      go (accepted c) e (Err refusal) t = absurd t
+      go (accepted c) e (Ok true) t = (λ y. record { held = c; book = e; holds = t }, λ w. refl)
+      go (accepted c) e (Ok false) t = (λ y. absurd (let z : ◌≡◌ {A = ℕ} 0 1 = cc in omega arith), λ w. absurd (t (class_of c e w)))
 
   -- in numbers
   answered_class : (r : Answered) → TestCall P s r → SaysYes r ↔ InClass P s
   answered_class r t = let w = tested_class t.tested t.promise in (λ y. w.0 (go t.tested (sym (ap answered_numbers t.numbers) ∙ y)), λ i. rw (t.numbers, w.1 i) refl)
     where
       go : (x : Tested) → tested_numbers x ≡ value_of 1 → x ≡ Yes
-      go (Refused cause place) e = absurd (omega (arith, ap (λ (n : Numbers). n.value) e))
-      go Yes e = refl
-      go No e = absurd (omega (arith, ap (λ (n : Numbers). n.value) e))
+      go (Err refusal) e = absurd (omega (arith, ap (λ (n : Numbers). n.value) e))
+      go (Ok true) e = refl
+      go (Ok false) e = absurd (omega (arith, ap (λ (n : Numbers). n.value) e))
 
   -- in a line of the program's text
   written_class : (c : Contents) → read s ≡ accepted c → (b : Bool) → Is b (P c) → (b ≡ true) ↔ InClass P s
@@ -75,11 +74,11 @@ module _ (P : Contents → Type 0) (s : List ℕ) where
   written_class c e false n = (λ y. absurd (false_true y), λ w. absurd (n (class_of c e w)))
 
 module _ (s : List ℕ) where
-  judged_class : (j : Judgement) → JudgeAnswered s j → (j.verdict ≡ Passed) ↔ InClass RelativelySerializableHistory s
+  judged_class : (j : JudgeAnswer) → JudgeAnswered s j → (verdict_of j ≡ Ok Passed) ↔ InClass RelativelySerializableHistory s
   judged_class j w = go (read s) refl (w.promise.long w.order_long w.cycle_long)
     where
-      go : (o : Outcome) → read s ≡ o → OutcomeJudged w.order w.order' w.cycle w.cycle' o j → (j.verdict ≡ Passed) ↔ InClass RelativelySerializableHistory s
-      go (refused cause place) e k = (λ y. absurd (let f = k.verdict_is in let z : ◌≡◌ {A = ℕ} 0 1 = cc in omega arith), λ i. absurd (no_class RelativelySerializableHistory s cause place e i))
+      go : (o : Outcome) → read s ≡ o → OutcomeJudged w.order w.order' w.cycle w.cycle' o j → (verdict_of j ≡ Ok Passed) ↔ InClass RelativelySerializableHistory s
+      go (refused cause place) e k = (λ y. absurd (let f = ap verdict_of k.refusal in let z : ◌≡◌ {A = ℕ} 0 1 = cc in omega arith), λ i. absurd (no_class RelativelySerializableHistory s cause place e i))
       go (accepted c) e k =
           let b = bytes_passed w.order w.order' w.cycle w.cycle' s j w.promise w.order_long w.cycle_long c e in
           (λ y. record { held = c; book = e; holds = b.0 y }, λ i. b.1 (class_of RelativelySerializableHistory s c e i))
@@ -91,12 +90,12 @@ module _ (s : List ℕ) where
   deck_judged_class : (r : Judged) → DeckJudgeAnswered s r → SaysPassed r ↔ InClass RelativelySerializableHistory s
   deck_judged_class r w =
       let t = judged_class w.promise.judgement (judgement_behind r w) in
-      (λ y. t.0 (go w.promise.judgement.verdict (sym (ap judged_numbers w.promise.numbers) ∙ y)), λ i. rw (w.promise.numbers, t.1 i) refl)
+      (λ y. t.0 (go (verdict_of w.promise.judgement) (sym (ap judged_numbers w.promise.numbers) ∙ y)), λ i. rw (w.promise.numbers, t.1 i) refl)
     where
-      go : (v : Verdict) → verdict_numbers v ≡ value_of 1 → v ≡ Passed
-      go (NotJudged cause place) e = absurd (omega (arith, ap (λ (n : Numbers). n.value) e))
-      go Passed e = refl
-      go Tangled e = absurd (omega (arith, ap (λ (n : Numbers). n.value) e))
+      go : (v : Result Verdict Refusal) → verdict_numbers v ≡ value_of 1 → v ≡ Ok Passed
+      go (Err refusal) e = absurd (omega (arith, ap (λ (n : Numbers). n.value) e))
+      go (Ok Passed) e = refl
+      go (Ok Tangled) e = absurd (omega (arith, ap (λ (n : Numbers). n.value) e))
 
   -- in the program's text
   text_class : (c : Contents) → read s ≡ accepted c → (v : ReportVerdict) → VerdictOn c v → TextSaysPassed v ↔ InClass RelativelySerializableHistory s
@@ -172,7 +171,7 @@ module _ (t : HistoryRow) (w : Holds t) (ok : RelativelySerializableHistory (row
       passes : InClass RelativelySerializableHistory (row_bytes t)
       passes = record { held = row_contents t; book = e; holds = ok }
 
-      judged : (j : Judgement) → JudgeAnswered (row_bytes t) j → j.verdict ≡ Passed
+      judged : (j : JudgeAnswer) → JudgeAnswered (row_bytes t) j → verdict_of j ≡ Ok Passed
       judged j x = (judged_class (row_bytes t) j x).1 passes
 
       -- the numbers for C of such an answer

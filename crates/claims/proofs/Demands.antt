@@ -1,4 +1,5 @@
 -- Demands 2 and 3, of the calls in Rattle and for C, and the twelve rows.
+use Rattle.std.specs.Prelude.{Result, Err, Ok}
 use Prim.Native.Nat.{ℕ, ◌<◌}
 use native.Mathlib.Omega.{arith}
 use mathlib.Core.Path.{◌≡◌, refl, ap, ap₂, sym, subst, ◌∙◌}
@@ -15,17 +16,17 @@ use Rattle.book.specs.Format.{Contents, Outcome}
 use Rattle.book.specs.Meaning.{conflict_of, unit_of}
 use Rattle.book.specs.Numbers.{number, Numbers, value_of}
 use Rattle.book.specs.declared.Cause.{Cause}
-use Rattle.judge.specs.Judged.{verdict_numbers, JudgedAs}
+use Rattle.book.specs.declared.Refusal.{Refusal as Refused}
+use Rattle.judge.specs.Judged.{JudgeAnswer, verdict_numbers, verdict_of, count_of, JudgedAs, JudgementAs}
 use Rattle.judge.specs.Judge.{OutcomeJudged}
 use Rattle.judge.specs.declared.Verdict.{Verdict}
-use Rattle.judge.specs.declared.Verdict.TheVariants.{Passed, Tangled, Refused as NotJudged}
+use Rattle.judge.specs.declared.Verdict.TheVariants.{Passed, Tangled}
 use Rattle.judge.proofs.Uncut.{bytes_passed, uncut_passed}
 use Rattle.plain.specs.Plain.{Call, Answer, place, refused, State, Refusal, not_declared, was_withdrawn, all_kept, TakeBackRefusal, undeclared, was_taken_back, PlainCall, step_refused, step_tangled, step_kept, withdraw_refused, withdraws, take_back_refused, takes_back}
-use Rattle.gate.specs.Gate.{answer_of, reply_numbers, Sound}
+use Rattle.gate.specs.Gate.{Replied, answer_of, reply_numbers, Sound}
 use Rattle.gate.specs.Chain.{Chain, none as no_calls, link as call_link}
 use Rattle.gate.specs.declared.Gate.{Gate}
-use Rattle.gate.specs.declared.Reply.{Reply}
-use Rattle.gate.specs.declared.Reply.TheVariants.{Place, Withdrawn, TakenBack, Refused as CallRefused}
+use Rattle.gate.specs.declared.Reply.TheVariants.{Place, Withdrawn, TakenBack}
 use Rattle.gate.proofs.Records.{sound_call}
 use Rattle.gate.proofs.Chained.{demand_3 as gate_demand}
 use Rattle.capi.specs.Numbers.{answered}
@@ -35,58 +36,83 @@ use Rattle.claims.specs.Demands.{Demand2By, EveryJudgement, EveryDeckJudgement, 
 
 -- ---- demand 2
 
+-- a verdict, or a refusal
+abbrev Said : Type 0
+Said = Result Verdict Refused
+
+passed_ok : {v : Verdict} → ◌≡◌ {A = Said} (Ok v) (Ok Passed) → v ≡ Passed
+passed_ok {v} e = let z : v ≡ Passed = cc in z
+
 module _ (c : Contents) (order order' cycle cycle' : List ℕ) where
-  order_returned : (v : Verdict) (n : ℕ) → JudgedAs (conflict_of c) (unit_of c) c.history order order' cycle cycle' v n → v ≡ Passed
-      → RelativelySerialOrder (conflict_of c) (unit_of c) c.history (take n order')
-  order_returned (NotJudged cause at) n j e = absurd j
-  order_returned Tangled n j e = let z : ◌≡◌ {A = ℕ} 0 1 = cc in absurd (omega arith)
-  order_returned Passed n j e =
-      let l = j.taken in
-      let k : n ≡ length l = j.count_is ∙ sym (order_length c.history l j.evidence.equivalent.order) in
-      rw (j.order_is, k, take-append_seam l (drop (length c.history) order)) j.evidence
+  abbrev Judged : JudgeAnswer → Type 0
+  Judged = JudgementAs (conflict_of c) (unit_of c) c.history order order' cycle cycle'
 
-  order_counted : (v : Verdict) (n : ℕ) → JudgedAs (conflict_of c) (unit_of c) c.history order order' cycle cycle' v n → v ≡ Passed → n ≡ length c.history
-  order_counted (NotJudged cause at) n j e = absurd j
-  order_counted Tangled n j e = let z : ◌≡◌ {A = ℕ} 0 1 = cc in absurd (omega arith)
-  order_counted Passed n j e = j.count_is
+  order_returned : (r : JudgeAnswer) → Judged r → verdict_of r ≡ Ok Passed → RelativelySerialOrder (conflict_of c) (unit_of c) c.history (take (count_of r) order')
+  order_returned (Err refusal) j e = absurd j
+  order_returned (Ok k) j e = go k.verdict k.count j (passed_ok e)
+    where
+      go : (v : Verdict) (n : ℕ) → JudgedAs (conflict_of c) (unit_of c) c.history order order' cycle cycle' v n → v ≡ Passed
+          → RelativelySerialOrder (conflict_of c) (unit_of c) c.history (take n order')
+      go Tangled n j e = let z : ◌≡◌ {A = ℕ} 0 1 = cc in absurd (omega arith)
+      go Passed n j e =
+          let l = j.taken in
+          let k : n ≡ length l = j.count_is ∙ sym (order_length c.history l j.evidence.equivalent.order) in
+          rw (j.order_is, k, take-append_seam l (drop (length c.history) order)) j.evidence
 
-  tangled_otherwise : (v : Verdict) (n : ℕ) → JudgedAs (conflict_of c) (unit_of c) c.history order order' cycle cycle' v n → v ≢ Passed → v ≡ Tangled
-  tangled_otherwise (NotJudged cause at) n j e = absurd j
-  tangled_otherwise Passed n j e = absurd (e refl)
-  tangled_otherwise Tangled n j e = refl
+  order_counted : (r : JudgeAnswer) → Judged r → verdict_of r ≡ Ok Passed → count_of r ≡ length c.history
+  order_counted (Err refusal) j e = absurd j
+  order_counted (Ok k) j e = go k.verdict k.count j (passed_ok e)
+    where
+      go : (v : Verdict) (n : ℕ) → JudgedAs (conflict_of c) (unit_of c) c.history order order' cycle cycle' v n → v ≡ Passed → n ≡ length c.history
+      go Tangled n j e = let z : ◌≡◌ {A = ℕ} 0 1 = cc in absurd (omega arith)
+      go Passed n j e = j.count_is
 
-  cycle_returned : (v : Verdict) (n : ℕ) → JudgedAs (conflict_of c) (unit_of c) c.history order order' cycle cycle' v n → v ≢ Passed
-      → Cycle (conflict_of c) (unit_of c) c.history (take n cycle')
-  cycle_returned (NotJudged cause at) n j e = absurd j
-  cycle_returned Passed n j e = absurd (e refl)
-  cycle_returned Tangled n j e = rw (j.cycle_is, j.count_is, take-append_seam j.places (drop (length j.places) cycle)) j.evidence
+  tangled_otherwise : (r : JudgeAnswer) → Judged r → verdict_of r ≢ Ok Passed → verdict_of r ≡ Ok Tangled
+  tangled_otherwise (Err refusal) j e = absurd j
+  tangled_otherwise (Ok k) j e = go k.verdict e
+    where
+      go : (v : Verdict) → ◌≢◌ {A = Said} (Ok v) (Ok Passed) → ◌≡◌ {A = Said} (Ok v) (Ok Tangled)
+      go Passed e = absurd (e refl)
+      go Tangled e = refl
 
-  cycle_counted : (v : Verdict) (n : ℕ) → JudgedAs (conflict_of c) (unit_of c) c.history order order' cycle cycle' v n → v ≢ Passed → n ≡ length (take n cycle')
-  cycle_counted (NotJudged cause at) n j e = absurd j
-  cycle_counted Passed n j e = absurd (e refl)
-  cycle_counted Tangled n j e = rw (j.cycle_is, j.count_is, take-append_seam j.places (drop (length j.places) cycle))
+  cycle_returned : (r : JudgeAnswer) → Judged r → verdict_of r ≢ Ok Passed → Cycle (conflict_of c) (unit_of c) c.history (take (count_of r) cycle')
+  cycle_returned (Err refusal) j e = absurd j
+  cycle_returned (Ok k) j e = go k.verdict k.count j e
+    where
+      go : (v : Verdict) (n : ℕ) → JudgedAs (conflict_of c) (unit_of c) c.history order order' cycle cycle' v n → ◌≢◌ {A = Said} (Ok v) (Ok Passed)
+          → Cycle (conflict_of c) (unit_of c) c.history (take n cycle')
+      go Passed n j e = absurd (e refl)
+      go Tangled n j e = rw (j.cycle_is, j.count_is, take-append_seam j.places (drop (length j.places) cycle)) j.evidence
+
+  cycle_counted : (r : JudgeAnswer) → Judged r → verdict_of r ≢ Ok Passed → count_of r ≡ length (take (count_of r) cycle')
+  cycle_counted (Err refusal) j e = absurd j
+  cycle_counted (Ok k) j e = go k.verdict k.count j e
+    where
+      go : (v : Verdict) (n : ℕ) → JudgedAs (conflict_of c) (unit_of c) c.history order order' cycle cycle' v n → ◌≢◌ {A = Said} (Ok v) (Ok Passed) → n ≡ length (take n cycle')
+      go Passed n j e = absurd (e refl)
+      go Tangled n j e = rw (j.cycle_is, j.count_is, take-append_seam j.places (drop (length j.places) cycle))
 
 pub demand_2 : EveryJudgement
 demand_2 s c e order order' cycle cycle' r a b j = record {
   passes_exactly = bytes_passed order order' cycle cycle' s r j a b c e;
-  order_returned = order_returned c order order' cycle cycle' r.verdict r.count judged;
-  order_counted = order_counted c order order' cycle cycle' r.verdict r.count judged;
-  tangled_otherwise = tangled_otherwise c order order' cycle cycle' r.verdict r.count judged;
-  cycle_returned = cycle_returned c order order' cycle cycle' r.verdict r.count judged;
-  cycle_counted = cycle_counted c order order' cycle cycle' r.verdict r.count judged;
+  order_returned = order_returned c order order' cycle cycle' r judged;
+  order_counted = order_counted c order order' cycle cycle' r judged;
+  tangled_otherwise = tangled_otherwise c order order' cycle cycle' r judged;
+  cycle_returned = cycle_returned c order order' cycle cycle' r judged;
+  cycle_counted = cycle_counted c order order' cycle cycle' r judged;
   uncut_exactly = uncut_passed order order' cycle cycle' s r j a b c e;
 }
   where
-    judged : JudgedAs (conflict_of c) (unit_of c) c.history order order' cycle cycle' r.verdict r.count
+    judged : JudgementAs (conflict_of c) (unit_of c) c.history order order' cycle cycle' r
     judged = subst (λ (o : Outcome). OutcomeJudged order order' cycle cycle' o r) e (j.long a b)
 
 -- the same in numbers
-pub passed_is_1 : (v : Verdict) → verdict_numbers v ≡ value_of 1 → v ≡ Passed
-passed_is_1 (NotJudged cause at) e = let z = ap (λ (k : Numbers). k.value) e in absurd (omega arith)
-passed_is_1 Passed e = refl
-passed_is_1 Tangled e = let z = ap (λ (k : Numbers). k.value) e in absurd (omega arith)
+pub passed_is_1 : (v : Said) → verdict_numbers v ≡ value_of 1 → v ≡ Ok Passed
+passed_is_1 (Err refusal) e = let z = ap (λ (k : Numbers). k.value) e in absurd (omega arith)
+passed_is_1 (Ok Passed) e = refl
+passed_is_1 (Ok Tangled) e = let z = ap (λ (k : Numbers). k.value) e in absurd (omega arith)
 
-in_numbers : {c : Contents} {order' cycle' : List ℕ} {n : ℕ} (v : Verdict) → Demand2By Passed Tangled c order' cycle' v n
+in_numbers : {c : Contents} {order' cycle' : List ℕ} {n : ℕ} (v : Said) → Demand2By (Ok Passed) (Ok Tangled) c order' cycle' v n
     → Demand2By (value_of 1) (value_of 2) c order' cycle' (verdict_numbers v) n
 in_numbers v d = record {
   passes_exactly = (λ p. d.passes_exactly.0 (passed_is_1 v p), λ s. ap verdict_numbers (d.passes_exactly.1 s));
@@ -100,7 +126,7 @@ in_numbers v d = record {
 
 pub deck_demand_2 : EveryDeckJudgement
 deck_demand_2 s c e order order' cycle cycle' r a b j =
-    rw j.numbers (in_numbers j.judgement.verdict (demand_2 s c e order order' cycle cycle' j.judgement a b j.promise))
+    rw j.numbers (in_numbers (verdict_of j.judgement) (demand_2 s c e order order' cycle cycle' j.judgement a b j.promise))
 
 -- ---- demand 3
 
@@ -129,11 +155,11 @@ positive m (take_back_refused {cause = k} p) e = let q : number k ≡ m = cc in 
 positive m (takes_back l) e = let z : ◌≡◌ {A = ℕ} 0 1 = cc in absurd (omega arith)
 
 -- the numbers of a reply that the plain gate gives
-numbers_of_reply : {c : Contents} {g h : State} {x : Call} (a : Reply) → PlainCall c g x (answer_of a) h → NumbersOf x (answer_of a) (answered (reply_numbers a))
-numbers_of_reply (Place p) (step_kept e t) = of_place
-numbers_of_reply Withdrawn (withdraws e) = of_withdrawn
-numbers_of_reply TakenBack (takes_back e) = of_taken_back
-numbers_of_reply (CallRefused cause) p = of_refusal (positive (number cause) p refl)
+numbers_of_reply : {c : Contents} {g h : State} {x : Call} (a : Replied) → PlainCall c g x (answer_of a) h → NumbersOf x (answer_of a) (answered (reply_numbers a))
+numbers_of_reply (Ok (Place p)) (step_kept e t) = of_place
+numbers_of_reply (Ok Withdrawn) (withdraws e) = of_withdrawn
+numbers_of_reply (Ok TakenBack) (takes_back e) = of_taken_back
+numbers_of_reply (Err cause) p = of_refusal (positive (number cause) p refl)
 
 -- one answer to a call has them
 one_answer : {x : Call} {a b : Answer} {n m : Answered} → NumbersOf x a n → NumbersOf x b m → n ≡ m → a ≡ b

@@ -1,4 +1,5 @@
 -- Each public call's contract has one result, the judge's choice of a cycle apart.
+use Rattle.std.specs.Prelude.{Result, Err, Ok}
 use Prim.Native.Nat.{ℕ, ◌+◌, ◌-◌, ◌≤◌, ◌<◌}
 use native.Mathlib.Decide.{dec_lt, ℕ_discrete}
 use native.Mathlib.Omega.{arith}
@@ -18,40 +19,30 @@ use Rattle.theory.proofs.Places.{order_length}
 use Rattle.theory.proofs.Greedy.{greedy_unique}
 use Rattle.book.specs.Format.{Contents, Outcome, refused, accepted, kind_limit, step_limit, read}
 use Rattle.book.specs.Meaning.{conflict_of, unit_of}
-use Rattle.book.specs.Book.{Valid, pairs_of, outcome_by, ReadAs}
+use Rattle.book.specs.Book.{contents_of, pairs_of, ReadAs}
 use Rattle.book.specs.declared.Cause.{Cause}
 use Rattle.book.specs.declared.Cause.TheVariants.{JudgeBufferShort, NoIsland}
-use Rattle.book.specs.declared.Book.{Book}
-use Rattle.book.specs.declared.Answer.{Answer as BookAnswer}
-use Rattle.book.specs.declared.Answer.TheVariants.{Refused as NotRead, Accepted}
+use Rattle.book.specs.declared.Refusal.{Refusal}
 use Rattle.book.proofs.Numbers.{cause_of, cause_back}
 use Rattle.book.proofs.Determined.{determined}
 use Rattle.dependence.specs.Marks.{Marks}
 use Rattle.dependence.specs.Catalogue.{part_rows, Which, first_touches, second_touches, PartIs, PairedWith, Catalogued}
 use Rattle.dependence.specs.Dependence.{StepsRead}
-use Rattle.judge.specs.Judged.{verdict_numbers, JudgedAs}
+use Rattle.judge.specs.Judged.{JudgeAnswer, verdict_numbers, verdict_of, count_of, JudgedAs, JudgementAs}
 use Rattle.judge.specs.Judge.{RefusedAs, OutcomeJudged, BytesJudged}
-use Rattle.judge.specs.declared.Judgement.{Judgement}
 use Rattle.judge.specs.declared.Verdict.{Verdict}
-use Rattle.judge.specs.declared.Verdict.TheVariants.{Passed, Tangled, Refused as NotJudged}
-use Rattle.classes.specs.Tested.{tested_numbers, YesWhere, OutcomeTested}
-use Rattle.classes.specs.declared.Tested.{Tested}
-use Rattle.classes.specs.declared.Tested.TheVariants.{Yes, No, Refused as NotTested}
+use Rattle.judge.specs.declared.Verdict.TheVariants.{Passed, Tangled}
+use Rattle.classes.specs.Tested.{Tested, tested_numbers, YesWhere, OutcomeTested}
 use Rattle.names.specs.Names.{cycle_names}
 use Rattle.names.specs.declared.ArcNames.{ArcNames}
-use Rattle.evidence.specs.Named.{named_numbers, OutcomeNamed}
-use Rattle.evidence.specs.declared.Named.{Named}
-use Rattle.writer.specs.Written.{written_numbers}
-use Rattle.writer.specs.declared.Written.{Written}
+use Rattle.evidence.specs.Named.{Named, named_numbers, OutcomeNamed}
+use Rattle.writer.specs.Written.{Written, written_numbers}
 use Rattle.plain.specs.Plain.{Call, Answer, place, withdrawn, taken_back, refused as refused_by}
-use Rattle.gate.specs.Gate.{answer_of, reply_numbers, opening_numbers, book_of, state_of, OpenedAs, CalledAs, on_sound, on_damaged}
-use Rattle.replay.specs.Replay.{played_numbers, played_by, Replays}
+use Rattle.gate.specs.Gate.{Replied, answer_of, reply_numbers, opening_numbers, book_of, state_of, OpenedAs, CalledAs, on_sound, on_damaged}
+use Rattle.replay.specs.Replay.{Played, played_numbers, played_by, Replays}
 use Rattle.gate.specs.declared.Gate.{Gate}
 use Rattle.gate.specs.declared.Opened.{Opened}
-use Rattle.gate.specs.declared.Reply.{Reply}
-use Rattle.gate.specs.declared.Reply.TheVariants.{Place, Withdrawn, TakenBack, Refused as CallRefused}
-use Rattle.replay.specs.declared.Played.{Played}
-use Rattle.replay.specs.declared.Played.TheVariants.{Done, Refused as NotReplayed}
+use Rattle.gate.specs.declared.Reply.TheVariants.{Place, Withdrawn, TakenBack}
 use Rattle.replay.specs.declared.Replayed.{Replayed}
 use Rattle.plain.proofs.PlainGate.{single, single_calls}
 use Rattle.gate.proofs.Unchanged.{same_record}
@@ -68,16 +59,13 @@ use Rattle.claims.proofs.OnePass.{all_read}
 -- ---- reading
 
 one_reading : (o : Outcome) → AtMostOne (ReadAs o)
-one_reading o r r' w w' =
-    let k = go r.answer r'.answer r.book r'.book w.outcome w'.outcome (λ cause at e. w.empty cause at e ∙ sym (w'.empty cause at e)) w.valid w'.valid in
-    λ i. record { answer = k.0 i; book = k.1 i }
-  where
-    go : (a a' : BookAnswer) (b b' : Book) → outcome_by a b ≡ o → outcome_by a' b' ≡ o → ((cause : Cause) (at : ℕ) → o ≡ refused cause at → b ≡ b') → Valid b → Valid b'
-        → (a ≡ a') × (b ≡ b')
-    go (NotRead cause at) (NotRead d p) b b' e f h v v' = (cc, h cause at (sym e))
-    go (NotRead cause at) Accepted b b' e f h v v' = let z : ◌≡◌ {A = ℕ} 0 1 = cc in absurd (omega arith)
-    go Accepted (NotRead d p) b b' e f h v v' = let z : ◌≡◌ {A = ℕ} 0 1 = cc in absurd (omega arith)
-    go Accepted Accepted b b' e f h v v' = (refl, determined b b' v v' (cc))
+one_reading o (Ok b) (Ok b') w w' = ap Ok (determined b b' w.valid w'.valid (let z : contents_of b ≡ contents_of b' = cc (w.outcome, w'.outcome) in z))
+one_reading o (Ok b) (Err refusal) w w' = let z : ◌≡◌ {A = ℕ} 0 1 = cc (w.outcome, w') in absurd (omega arith)
+one_reading o (Err refusal) (Ok b) w w' = let z : ◌≡◌ {A = ℕ} 0 1 = cc (w, w'.outcome) in absurd (omega arith)
+one_reading o (Err x) (Err y) w w' =
+    let causes : x.cause ≡ y.cause = cc (w, w') in
+    let places : x.place ≡ y.place = cc (w, w') in
+    λ i. Err (record { cause = causes i; place = places i })
 
 -- ---- judging
 
@@ -102,27 +90,36 @@ long_or_short order cycle = go (dec_lt (length order) step_limit) (dec_lt (lengt
 
 module _ (order order' order'' cycle cycle' cycle'' : List ℕ) where
   judged_equal : (c : Contents) (v v' : Verdict) (n n' : ℕ) → JudgedAs (conflict_of c) (unit_of c) c.history order order' cycle cycle' v n
-      → JudgedAs (conflict_of c) (unit_of c) c.history order order'' cycle cycle'' v' n' → EqualButCycle Tangled v v' n n' order' order'' cycle' cycle''
-  judged_equal c (NotJudged cause at) v' n n' j k = absurd j
-  judged_equal c Passed (NotJudged cause at) n n' j k = absurd k
+      → JudgedAs (conflict_of c) (unit_of c) c.history order order'' cycle cycle'' v' n' → EqualButCycle {A = Result Verdict Refusal} (Ok Tangled) (Ok v) (Ok v') n n' order' order'' cycle' cycle''
   judged_equal c Passed Passed n n' j k =
       let e = one_order c j.taken k.taken j.evidence k.evidence j.greedy k.greedy in
       record { verdicts = refl; orders = cc e; counts = λ t. cc; cycles = λ t. cc }
   judged_equal c Passed Tangled n n' j k = absurd (k.not_serializable j.serializable)
-  judged_equal c Tangled (NotJudged cause at) n n' j k = absurd k
   judged_equal c Tangled Passed n n' j k = absurd (j.not_serializable k.serializable)
   judged_equal c Tangled Tangled n n' j k = record { verdicts = refl; orders = cc; counts = λ t. absurd (t refl); cycles = λ t. absurd (t refl) }
 
-  module _ (r r' : Judgement) where
+  answers_equal : (c : Contents) (r r' : JudgeAnswer) → JudgementAs (conflict_of c) (unit_of c) c.history order order' cycle cycle' r
+      → JudgementAs (conflict_of c) (unit_of c) c.history order order'' cycle cycle'' r'
+      → EqualButCycle (Ok Tangled) (verdict_of r) (verdict_of r') (count_of r) (count_of r') order' order'' cycle' cycle''
+  answers_equal c (Ok a) (Ok b) j k = judged_equal c a.verdict b.verdict a.count b.count j k
+  answers_equal c (Err refusal) r' j k = absurd j
+  answers_equal c (Ok a) (Err refusal) j k = absurd k
+
+  module _ (r r' : JudgeAnswer) where
     abbrev Equal : Type 0
-    Equal = EqualButCycle Tangled r.verdict r'.verdict r.count r'.count order' order'' cycle' cycle''
+    Equal = EqualButCycle (Ok Tangled) (verdict_of r) (verdict_of r') (count_of r) (count_of r') order' order'' cycle' cycle''
 
     refused_equal : (cause : Cause) (at : ℕ) → RefusedAs order order' cycle cycle' cause at r → RefusedAs order order'' cycle cycle'' cause at r' → Equal
-    refused_equal cause at j k = record { verdicts = cc; orders = cc; counts = λ t. cc; cycles = λ t. cc }
+    refused_equal cause at j k = record {
+      verdicts = ap verdict_of (j.refusal ∙ sym k.refusal);
+      orders = cc;
+      counts = λ t. ap count_of (j.refusal ∙ sym k.refusal);
+      cycles = λ t. cc;
+    }
 
     outcome_equal : (o : Outcome) → OutcomeJudged order order' cycle cycle' o r → OutcomeJudged order order'' cycle cycle'' o r' → Equal
     outcome_equal (refused cause at) j k = refused_equal cause at j k
-    outcome_equal (accepted c) j k = judged_equal c r.verdict r'.verdict r.count r'.count j k
+    outcome_equal (accepted c) j k = answers_equal c r r' j k
 
     bytes_equal : (s : List ℕ) → BytesJudged order order' cycle cycle' s r → BytesJudged order order'' cycle cycle'' s r' → Equal
     unfolding Lengths
@@ -134,19 +131,19 @@ module _ (order order' order'' cycle cycle' cycle'' : List ℕ) where
 
 module _ (order order' cycle cycle' : List ℕ) where
   judged_rest : (c : Contents) (v : Verdict) (n : ℕ) → JudgedAs (conflict_of c) (unit_of c) c.history order order' cycle cycle' v n → drop n cycle' ≡ drop n cycle
-  judged_rest c (NotJudged cause at) n j = absurd j
   judged_rest c Passed n j = cc
   judged_rest c Tangled n j = rw (j.cycle_is, j.count_is, drop-append_seam j.places (drop (length j.places) cycle))
 
-  outcome_rest : (o : Outcome) (r : Judgement) → OutcomeJudged order order' cycle cycle' o r → drop r.count cycle' ≡ drop r.count cycle
+  outcome_rest : (o : Outcome) (r : JudgeAnswer) → OutcomeJudged order order' cycle cycle' o r → drop (count_of r) cycle' ≡ drop (count_of r) cycle
   outcome_rest (refused cause at) r j = cc
-  outcome_rest (accepted c) r j = judged_rest c r.verdict r.count j
+  outcome_rest (accepted c) (Ok a) j = judged_rest c a.verdict a.count j
+  outcome_rest (accepted c) (Err refusal) j = absurd j
 
-  bytes_rest : (s : List ℕ) (r : Judgement) → BytesJudged order order' cycle cycle' s r → drop r.count cycle' ≡ drop r.count cycle
+  bytes_rest : (s : List ℕ) (r : JudgeAnswer) → BytesJudged order order' cycle cycle' s r → drop (count_of r) cycle' ≡ drop (count_of r) cycle
   unfolding Lengths
   bytes_rest s r j = go (long_or_short order cycle)
     where
-      go : Lengths order cycle → drop r.count cycle' ≡ drop r.count cycle
+      go : Lengths order cycle → drop (count_of r) cycle' ≡ drop (count_of r) cycle
       go (inl h) = outcome_rest (refused JudgeBufferShort 0) r (j.short h)
       go (inr h) = outcome_rest (read s) r (j.long h.0 h.1)
 
@@ -154,7 +151,7 @@ module _ (order order' cycle cycle' : List ℕ) where
 
 one_list : (o : Outcome) → AtMostOne (OutcomeListed o)
 one_list (refused cause at) r r' w w' = w ∙ sym w'
-one_list (accepted c) r r' w w' = w.is ∙ ap (λ (f : ℕ → ℕ). island_list f (length c.runs)) (one_name_each c w.name w'.name w.islands w'.islands) ∙ sym w'.is
+one_list (accepted c) r r' w w' = w.is ∙ ap (λ (f : ℕ → ℕ). Ok (island_list f (length c.runs))) (one_name_each c w.name w'.name w.islands w'.islands) ∙ sym w'.is
 
 one_history : (o : Outcome) (m : ℕ) → AtMostOne (OutcomeHistory o m)
 one_history (refused cause at) m r r' w w' = w ∙ sym w'
@@ -162,11 +159,11 @@ one_history (accepted c) m r r' w w' = go (dec_smallest c w.name m)
   where
     go : Dec (Smallest c w.name m) → r ≡ r'
     go (yes k) =
-        w.found k ∙ ap (λ (d : Contents). island_steps d.history) (same_book c m w.name w'.name w.islands w'.islands)
+        w.found k ∙ ap (λ (d : Contents). Ok (island_steps d.history)) (same_book c m w.name w'.name w.islands w'.islands)
         ∙ sym (w'.found (same_smallest c m w.name w'.name w.islands w'.islands k))
     go (no k) = w.no_island k ∙ sym (w'.no_island (λ s. k (same_smallest c m w'.name w.name w'.islands w.islands s)))
 
-module _ (order order' order'' cycle cycle' cycle'' : List ℕ) (r r' : Judgement) (s : List ℕ) (m : ℕ) where
+module _ (order order' order'' cycle cycle' cycle'' : List ℕ) (r r' : JudgeAnswer) (s : List ℕ) (m : ℕ) where
   part_equal : (o : Outcome) → OutcomePart order order' cycle cycle' o m r → OutcomePart order order'' cycle cycle'' o m r' → Equal order order' order'' cycle cycle' cycle'' r r'
   part_equal (refused cause at) j k = refused_equal order order' order'' cycle cycle' cycle'' r r' cause at j k
   part_equal (accepted c) j k = go (dec_smallest c j.name m)
@@ -185,32 +182,32 @@ module _ (order order' order'' cycle cycle' cycle'' : List ℕ) (r r' : Judgemen
       go (inl h) = refused_equal order order' order'' cycle cycle' cycle'' r r' JudgeBufferShort 0 (j.short h) (k.short h)
       go (inr h) = part_equal (read s) (j.long h.0 h.1) (k.long h.0 h.1)
 
-island_rest : (s : List ℕ) (m : ℕ) (order order' cycle cycle' : List ℕ) (r : Judgement) → IslandJudged order order' cycle cycle' s m r → drop r.count cycle' ≡ drop r.count cycle
+island_rest : (s : List ℕ) (m : ℕ) (order order' cycle cycle' : List ℕ) (r : JudgeAnswer) → IslandJudged order order' cycle cycle' s m r → drop (count_of r) cycle' ≡ drop (count_of r) cycle
 unfolding Lengths
 island_rest s m order order' cycle cycle' r j = go (long_or_short order cycle)
   where
-    part : (o : Outcome) → OutcomePart order order' cycle cycle' o m r → drop r.count cycle' ≡ drop r.count cycle
+    part : (o : Outcome) → OutcomePart order order' cycle cycle' o m r → drop (count_of r) cycle' ≡ drop (count_of r) cycle
     part (refused cause at) k = outcome_rest order order' cycle cycle' (refused cause at) r k
     part (accepted c) k = by (dec_smallest c k.name m)
       where
-        by : Dec (Smallest c k.name m) → drop r.count cycle' ≡ drop r.count cycle
+        by : Dec (Smallest c k.name m) → drop (count_of r) cycle' ≡ drop (count_of r) cycle
         by (yes w) = outcome_rest order order' cycle cycle' (accepted (island_book c k.name m)) r (k.found w)
         by (no w) = outcome_rest order order' cycle cycle' (refused NoIsland 0) r (k.no_island w)
 
-    go : Lengths order cycle → drop r.count cycle' ≡ drop r.count cycle
+    go : Lengths order cycle → drop (count_of r) cycle' ≡ drop (count_of r) cycle
     go (inl h) = outcome_rest order order' cycle cycle' (refused JudgeBufferShort 0) r (j.short h)
     go (inr h) = part (read s) (j.long h.0 h.1)
 
 -- ---- testing
 
 one_answer : (P : Type 0) → AtMostOne (YesWhere P)
-one_answer P (NotTested cause at) r' w w' = absurd w
-one_answer P Yes (NotTested cause at) w w' = absurd w'
-one_answer P Yes Yes w w' = refl
-one_answer P Yes No w w' = absurd (w' w)
-one_answer P No (NotTested cause at) w w' = absurd w'
-one_answer P No Yes w w' = absurd (w w')
-one_answer P No No w w' = refl
+one_answer P (Err refusal) r' w w' = absurd w
+one_answer P (Ok true) (Err refusal) w w' = absurd w'
+one_answer P (Ok true) (Ok true) w w' = refl
+one_answer P (Ok true) (Ok false) w w' = absurd (w' w)
+one_answer P (Ok false) (Err refusal) w w' = absurd w'
+one_answer P (Ok false) (Ok true) w w' = absurd (w w')
+one_answer P (Ok false) (Ok false) w w' = refl
 
 one_test : (P : Contents → Type 0) (o : Outcome) → AtMostOne (OutcomeTested o P)
 one_test P (refused cause at) r r' w w' = w.refusal ∙ sym w'.refusal
@@ -223,17 +220,17 @@ one_name N (accepted c) r r' w w' = w ∙ sym w'
 -- ---- step, withdraw and take back
 
 -- the reply of an answer
-abbrev pub reply_of : Answer → Reply
-reply_of (place p) = Place p
-reply_of withdrawn = Withdrawn
-reply_of taken_back = TakenBack
-reply_of (refused_by n) = CallRefused (cause_of n)
+abbrev pub reply_of : Answer → Replied
+reply_of (place p) = Ok (Place p)
+reply_of withdrawn = Ok Withdrawn
+reply_of taken_back = Ok TakenBack
+reply_of (refused_by n) = Err (cause_of n)
 
-pub reply_back : (a : Reply) → reply_of (answer_of a) ≡ a
-reply_back (Place p) = refl
-reply_back Withdrawn = refl
-reply_back TakenBack = refl
-reply_back (CallRefused cause) = ap CallRefused (cause_back cause)
+pub reply_back : (a : Replied) → reply_of (answer_of a) ≡ a
+reply_back (Ok (Place p)) = refl
+reply_back (Ok Withdrawn) = refl
+reply_back (Ok TakenBack) = refl
+reply_back (Err cause) = ap Err (cause_back cause)
 
 one_call : (g : Gate) (x : Call) → AtMostOnePair (CalledAs g x)
 one_call g x a a' h h' (on_sound y w) (on_sound y' w') =
@@ -259,16 +256,16 @@ one_replay s calls before x x' r r' w w' =
     let k = go (read s) r.played refl refl (sym e) in
     (k.0, λ i. record { played = e i; gate = same_record r.gate r'.gate w.sound w'.sound (w.book ∙ sym w'.book) k.1 i })
   where
-    not_done : (cause : Cause) (at : ℕ) (p : Played) → p ≡ NotReplayed cause at → (n : ℕ) → p ≢ Done n
-    not_done cause at p e n f = let z : ◌≡◌ {A = ℕ} 0 1 = cc in omega arith
+    not_done : (x : Refusal) (p : Played) → p ≡ Err x → (n : ℕ) → p ≢ Ok n
+    not_done x p e n f = let z : ◌≡◌ {A = ℕ} 0 1 = cc in omega arith
 
     go : (o : Outcome) (p : Played) → read s ≡ o → r.played ≡ p → r'.played ≡ p → (x ≡ x') × (state_of r.gate ≡ state_of r'.gate)
-    go o (NotReplayed cause at) d e f =
-        let u = w.refused_unchanged (not_done cause at r.played e) in
-        let v = w'.refused_unchanged (not_done cause at r'.played f) in
+    go o (Err x) d e f =
+        let u = w.refused_unchanged (not_done x r.played e) in
+        let v = w'.refused_unchanged (not_done x r'.played f) in
         (u.buffer ∙ sym v.buffer, u.state ∙ sym v.state)
-    go (refused cause at) (Done n) d e f = let z : ◌≡◌ {A = ℕ} 0 1 = cc (ap (λ (o : Outcome). played_by o calls (length before)) d) in absurd (omega arith)
-    go (accepted c) (Done n) d e f =
+    go (refused cause at) (Ok n) d e f = let z : ◌≡◌ {A = ℕ} 0 1 = cc (ap (λ (o : Outcome). played_by o calls (length before)) d) in absurd (omega arith)
+    go (accepted c) (Ok n) d e f =
         let u = w.calls_made c n d e in
         let v = w'.calls_made c n d f in
         (u.buffer _ _ u.demand.plain ∙ sym (v.buffer _ _ u.demand.plain), (single_calls c u.demand.plain v.demand.plain).1)
@@ -391,10 +388,11 @@ fed_same pairs runs l c c' s s' d d' w w' =
 same_numbers : {A B : Type 0} (f : A → B) {a a' : A} {r r' : B} → r ≡ f a → r' ≡ f a' → a ≡ a' → r ≡ r'
 same_numbers f e e' h = e ∙ ap f h ∙ sym e'
 
--- of equal judgements
-numbers_equal : (order' order'' cycle' cycle'' : List ℕ) (j j' : Judgement) (r r' : Judged) → r ≡ judged (verdict_numbers j.verdict) j.count → r' ≡ judged (verdict_numbers j'.verdict) j'.count
-    → EqualButCycle Tangled j.verdict j'.verdict j.count j'.count order' order'' cycle' cycle''
-    → EqualButCycle (verdict_numbers Tangled) (judged_numbers r) (judged_numbers r') r.count r'.count order' order'' cycle' cycle''
+-- of equal answers of the judge
+numbers_equal : (order' order'' cycle' cycle'' : List ℕ) (j j' : JudgeAnswer) (r r' : Judged) → r ≡ judged (verdict_numbers (verdict_of j)) (count_of j)
+    → r' ≡ judged (verdict_numbers (verdict_of j')) (count_of j')
+    → EqualButCycle (Ok Tangled) (verdict_of j) (verdict_of j') (count_of j) (count_of j') order' order'' cycle' cycle''
+    → EqualButCycle (verdict_numbers (Ok Tangled)) (judged_numbers r) (judged_numbers r') r.count r'.count order' order'' cycle' cycle''
 numbers_equal order' order'' cycle' cycle'' j j' r r' w w' e =
     let numbers = ap judged_numbers w in
     let count : Judged → ℕ = λ j. j.count in
@@ -444,7 +442,7 @@ all_determined = record {
       (one_opening (read s) w.opened w'.opened w.promise w'.promise);
   c_calling = λ x g h h' r r' w w'.
       let e = one_call g x w.reply w'.reply h h' w.promise w'.promise in
-      (e.1, same_numbers (λ (t : Reply). answered (reply_numbers t)) w.numbers w'.numbers e.0);
+      (e.1, same_numbers (λ (t : Replied). answered (reply_numbers t)) w.numbers w'.numbers e.0);
   c_replaying = λ s calls before x x' r r' w w'.
       let e = one_replay s calls before x x' w.replayed w'.replayed w.promise w'.promise in
       (e.0, same_numbers (λ (t : Replayed). answered (played_numbers t.played)) w.numbers w'.numbers e.1);

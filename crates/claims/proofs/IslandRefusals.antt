@@ -1,8 +1,9 @@
 -- The refusals of the calls on islands: those of the book, and 27 where the run is no island's smallest.
+use Rattle.std.specs.Prelude.{Result, Ok, Err, ◌≢◌}
 use Prim.Native.Nat.{ℕ, ◌≤◌, ◌<◌}
 use native.Mathlib.Decide.{dec_lt}
 use native.Mathlib.Omega.{arith}
-use mathlib.Core.Path.{◌≡◌, refl, sym, ap, subst}
+use mathlib.Core.Path.{◌≡◌, refl, ap}
 use mathlib.Core.List.{List}
 use lib.ListN.{length}
 use Rattle.theory.specs.Components.{Joined}
@@ -12,11 +13,9 @@ use Rattle.book.specs.Numbers.{number, Numbers, refused_with, answer_numbers}
 use Rattle.book.specs.Meaning.{conflict_of}
 use Rattle.book.specs.declared.Cause.{Cause}
 use Rattle.book.specs.declared.Cause.TheVariants.{NoIsland}
-use Rattle.book.specs.declared.Answer.{Answer}
-use Rattle.book.specs.declared.Answer.TheVariants.{Refused}
-use Rattle.judge.specs.Judged.{verdict_numbers}
-use Rattle.judge.specs.declared.Judgement.{Judgement}
-use Rattle.islands.specs.Islands.{IslandsOf, Smallest, island_book, no_islands, OutcomeListed, IslandsListed, no_steps, OutcomeHistory, HistoryFound, IslandHistory, OutcomePart, PartJudged, IslandJudged}
+use Rattle.book.specs.declared.Refusal.{Refusal}
+use Rattle.judge.specs.Judged.{JudgeAnswer, verdict_numbers, verdict_of, count_of}
+use Rattle.islands.specs.Islands.{IslandsOf, Smallest, island_book, OutcomeListed, IslandsListed, OutcomeHistory, HistoryFound, IslandHistory, OutcomePart, PartJudged, IslandJudged}
 use Rattle.islands.specs.declared.IslandList.{IslandList}
 use Rattle.islands.specs.declared.IslandSteps.{IslandSteps}
 use Rattle.capi.specs.Numbers.{listed_islands, listed_steps}
@@ -79,51 +78,54 @@ book_rows s m U cause at e u = turned (IslandRow s m) U (refused_with cause at) 
 
 -- ---- the islands
 
-pub islands_turn : (s : List ℕ) (r : IslandList) → IslandsListed s r → TurnsAway (BookRow s) (answer_numbers r.answer) (r ≡ no_islands r.answer)
+-- an answer that is a refusal hands nothing back
+not_ok : {A : Type 0} {r : Result A Refusal} {e : Refusal} → r ≡ Err e → (x : A) → r ≢ Ok x
+not_ok e x f = let z : ◌≡◌ {A = ℕ} 0 1 = cc in omega arith
+
+pub islands_turn : (s : List ℕ) (r : Result IslandList Refusal) → IslandsListed s r → TurnsAway (BookRow s) (answer_numbers r) ((x : IslandList) → r ≢ Ok x)
 islands_turn s r h = go (read s) refl h.listed
   where
-    Turns : IslandList → Type 0
-    Turns x = TurnsAway (BookRow s) (answer_numbers x.answer) (x ≡ no_islands x.answer)
-
-    go : (o : Outcome) → read s ≡ o → OutcomeListed o r → Turns r
-    go (refused cause at) e w = subst Turns (sym w) (book_refused s (no_islands (Refused cause at) ≡ no_islands (Refused cause at)) cause at e refl)
-    go (accepted c) e w = book_accepted s (r ≡ no_islands r.answer) c (answer_numbers r.answer) e (ap (λ (x : IslandList). (answer_numbers x.answer).number) w.is)
+    go : (o : Outcome) → read s ≡ o → OutcomeListed o r → TurnsAway (BookRow s) (answer_numbers r) ((x : IslandList) → r ≢ Ok x)
+    go (refused cause at) e w = rw (ap answer_numbers w) (book_refused s ((x : IslandList) → r ≢ Ok x) cause at e (not_ok w))
+    go (accepted c) e w = book_accepted s ((x : IslandList) → r ≢ Ok x) c (answer_numbers r) e (ap (λ (x : Result IslandList Refusal). (answer_numbers x).number) w.is)
 
 pub deck_islands_turn : (s : List ℕ) (r : ListedIslands) → IslandsCall s r → TurnsAway (BookRow s) (island_numbers r) (WithoutIslands r)
-deck_islands_turn s r h = rw h.numbers (listed (without_value (BookRow s) (h.islands ≡ no_islands h.islands.answer) (answer_numbers h.islands.answer) (islands_turn s h.islands h.promise)))
+deck_islands_turn s r h = rw h.numbers (listed (without_value (BookRow s) ((x : IslandList) → h.islands ≢ Ok x) (answer_numbers h.islands) (islands_turn s h.islands h.promise)))
   where
-    listed : {n : Numbers} → TurnsAway (BookRow s) n (h.islands ≡ no_islands h.islands.answer) → TurnsAway (BookRow s) n (WithoutIslands (listed_islands h.islands))
-    listed t = record { row = t.row; no_value = t.no_value; unchanged = λ z. ap listed_islands (t.unchanged z); refused_by = t.refused_by }
+    none : (x : Result IslandList Refusal) → ((y : IslandList) → x ≢ Ok y) → WithoutIslands (listed_islands x)
+    none (Ok y) n = absurd (n y refl)
+    none (Err refusal) n = refl
+
+    listed : {n : Numbers} → TurnsAway (BookRow s) n ((x : IslandList) → h.islands ≢ Ok x) → TurnsAway (BookRow s) n (WithoutIslands (listed_islands h.islands))
+    listed t = record { row = t.row; no_value = t.no_value; unchanged = λ z. none h.islands (t.unchanged z); refused_by = t.refused_by }
 
 -- ---- an island's history
 
-pub history_turns : (s : List ℕ) (m : ℕ) (r : IslandSteps) → IslandHistory s m r → TurnsAway (IslandRow s m) (answer_numbers r.answer) (r ≡ no_steps r.answer)
+pub history_turns : (s : List ℕ) (m : ℕ) (r : Result IslandSteps Refusal) → IslandHistory s m r → TurnsAway (IslandRow s m) (answer_numbers r) ((x : IslandSteps) → r ≢ Ok x)
 history_turns s m r h = go (read s) refl h.history
   where
-    answer_of : {x : IslandSteps} → r ≡ x → r.answer ≡ x.answer
-    answer_of e = ap (λ (y : IslandSteps). y.answer) e
+    found : (c : Contents) → read s ≡ accepted c → (w : HistoryFound c m r) → Dec (Smallest c w.name m) → TurnsAway (IslandRow s m) (answer_numbers r) ((x : IslandSteps) → r ≢ Ok x)
+    found c e w (yes k) = carried_out s m c e w.name w.islands ((x : IslandSteps) → r ≢ Ok x) (answer_numbers r) (ap (λ (x : Result IslandSteps Refusal). (answer_numbers x).number) (w.found k)) k
+    found c e w (no k) = rw (ap answer_numbers (w.no_island k)) (refused_27 s m c e w.name w.islands ((x : IslandSteps) → r ≢ Ok x) k (not_ok (w.no_island k)))
 
-    Turns : IslandSteps → Type 0
-    Turns x = TurnsAway (IslandRow s m) (answer_numbers x.answer) (x ≡ no_steps x.answer)
-
-    found : (c : Contents) → read s ≡ accepted c → (w : HistoryFound c m r) → Dec (Smallest c w.name m) → Turns r
-    found c e w (yes k) = carried_out s m c e w.name w.islands (r ≡ no_steps r.answer) (answer_numbers r.answer) (ap (λ (a : Answer). (answer_numbers a).number) (answer_of (w.found k))) k
-    found c e w (no k) = subst Turns (sym (w.no_island k)) (refused_27 s m c e w.name w.islands (no_steps (Refused NoIsland 0) ≡ no_steps (Refused NoIsland 0)) k refl)
-
-    go : (o : Outcome) → read s ≡ o → OutcomeHistory o m r → Turns r
-    go (refused cause at) e w = subst Turns (sym w) (book_rows s m (no_steps (Refused cause at) ≡ no_steps (Refused cause at)) cause at e refl)
+    go : (o : Outcome) → read s ≡ o → OutcomeHistory o m r → TurnsAway (IslandRow s m) (answer_numbers r) ((x : IslandSteps) → r ≢ Ok x)
+    go (refused cause at) e w = rw (ap answer_numbers w) (book_rows s m ((x : IslandSteps) → r ≢ Ok x) cause at e (not_ok w))
     go (accepted c) e w = found c e w (dec_smallest c w.name m)
 
 pub deck_history_turns : (s : List ℕ) (m : ℕ) (r : ListedSteps) → IslandHistoryCall s m r → TurnsAway (IslandRow s m) (step_numbers r) (WithoutSteps r)
-deck_history_turns s m r h = rw h.numbers (listed (without_value (IslandRow s m) (h.steps ≡ no_steps h.steps.answer) (answer_numbers h.steps.answer) (history_turns s m h.steps h.promise)))
+deck_history_turns s m r h = rw h.numbers (listed (without_value (IslandRow s m) ((x : IslandSteps) → h.steps ≢ Ok x) (answer_numbers h.steps) (history_turns s m h.steps h.promise)))
   where
-    listed : {n : Numbers} → TurnsAway (IslandRow s m) n (h.steps ≡ no_steps h.steps.answer) → TurnsAway (IslandRow s m) n (WithoutSteps (listed_steps h.steps))
-    listed t = record { row = t.row; no_value = t.no_value; unchanged = λ z. ap listed_steps (t.unchanged z); refused_by = t.refused_by }
+    none : (x : Result IslandSteps Refusal) → ((y : IslandSteps) → x ≢ Ok y) → WithoutSteps (listed_steps x)
+    none (Ok y) n = absurd (n y refl)
+    none (Err refusal) n = refl
+
+    listed : {n : Numbers} → TurnsAway (IslandRow s m) n ((x : IslandSteps) → h.steps ≢ Ok x) → TurnsAway (IslandRow s m) n (WithoutSteps (listed_steps h.steps))
+    listed t = record { row = t.row; no_value = t.no_value; unchanged = λ z. none h.steps (t.unchanged z); refused_by = t.refused_by }
 
 -- ---- an island judged
 
-pub island_turns : (s : List ℕ) (m : ℕ) (order order' cycle cycle' : List ℕ) (r : Judgement) → IslandJudged order order' cycle cycle' s m r
-    → TurnsAway (IslandJudgeRow s m order cycle) (verdict_numbers r.verdict) (BuffersUnchanged order order' cycle cycle' r.count)
+pub island_turns : (s : List ℕ) (m : ℕ) (order order' cycle cycle' : List ℕ) (r : JudgeAnswer) → IslandJudged order order' cycle cycle' s m r
+    → TurnsAway (IslandJudgeRow s m order cycle) (verdict_numbers (verdict_of r)) (BuffersUnchanged order order' cycle cycle' (count_of r))
 island_turns s m order order' cycle cycle' r j = same_rows to from (by_buffers (IslandRow s m) order order' cycle cycle' r j.short (λ a b. go (read s) refl (j.long a b)))
   where
     to : (k at : ℕ) → JudgeRowBy (IslandRow s m) order cycle k at → IslandJudgeRow s m order cycle k at
@@ -137,16 +139,16 @@ island_turns s m order order' cycle cycle' r j = same_rows to from (by_buffers (
     from _ _ (judged_island a b x) = behind_12 a b x
 
     Same : Type 0
-    Same = BuffersUnchanged order order' cycle cycle' r.count
+    Same = BuffersUnchanged order order' cycle cycle' (count_of r)
 
-    found : (c : Contents) → read s ≡ accepted c → (w : PartJudged order order' cycle cycle' c m r) → Dec (Smallest c w.name m) → TurnsAway (IslandRow s m) (verdict_numbers r.verdict) Same
+    found : (c : Contents) → read s ≡ accepted c → (w : PartJudged order order' cycle cycle' c m r) → Dec (Smallest c w.name m) → TurnsAway (IslandRow s m) (verdict_numbers (verdict_of r)) Same
     found c e w (yes k) = judged_carried (IslandRow s m) order order' cycle cycle' r (island_book c w.name m) (w.found k) (no_row_of s m c e w.name w.islands k)
     found c e w (no k) =
         let q = w.no_island k in
-        rw q.verdict_is (refused_27 s m c e w.name w.islands Same k (buffers_unchanged (IslandRow s m) order order' cycle cycle' r NoIsland 0 q))
+        rw q.numbers (refused_27 s m c e w.name w.islands Same k (buffers_unchanged (IslandRow s m) order order' cycle cycle' r NoIsland 0 q))
 
-    go : (o : Outcome) → read s ≡ o → OutcomePart order order' cycle cycle' o m r → TurnsAway (IslandRow s m) (verdict_numbers r.verdict) Same
-    go (refused cause at) e w = rw w.verdict_is (book_rows s m Same cause at e (buffers_unchanged (IslandRow s m) order order' cycle cycle' r cause at w))
+    go : (o : Outcome) → read s ≡ o → OutcomePart order order' cycle cycle' o m r → TurnsAway (IslandRow s m) (verdict_numbers (verdict_of r)) Same
+    go (refused cause at) e w = rw w.numbers (book_rows s m Same cause at e (buffers_unchanged (IslandRow s m) order order' cycle cycle' r cause at w))
     go (accepted c) e w = found c e w (dec_smallest c w.name m)
 
 -- ---- the demand

@@ -1,9 +1,11 @@
 -- The islands partition the declared runs, each is judged as the book with its history, and the whole is passed exactly when each is.
+use Rattle.std.specs.Prelude.{Result, Err, Ok}
 use Prim.Native.Nat.{ℕ, suc, ◌-◌, ◌≤◌, ◌<◌}
 use native.Mathlib.Decide.{dec_lt}
 use native.Mathlib.Omega.{arith}
 use mathlib.Core.Path.{◌≡◌, refl, sym, ap, subst, ◌∙◌}
 use mathlib.Core.Logic.{◌⊎◌, inl, inr, ◌↔◌}
+use mathlib.Core.Bool.{true, false}
 use mathlib.Core.List.{List, [], ◌∷◌}
 use lib.ListN.{length, get_or, take, replicate, get_or-append, get_or-eq_default}
 use lib.Seq.{take-append_seam}
@@ -23,24 +25,20 @@ use Rattle.book.specs.Format.{Bytes, Contents, Outcome, accepted, run_limit, ste
 use Rattle.book.specs.Meaning.{conflict_of, unit_of}
 use Rattle.book.specs.Numbers.{Numbers, answer_numbers}
 use Rattle.book.specs.Render.{render}
-use Rattle.book.specs.declared.Answer.{Answer}
-use Rattle.book.specs.declared.Answer.TheVariants.{Accepted}
+use Rattle.book.specs.declared.Refusal.{Refusal}
 use Rattle.book.proofs.Histories.{well_formed_allowed, history_book}
 use Rattle.book.proofs.Sizes.{few}
 use Rattle.book.proofs.RoundTrip.{accepted_book, render_read, render_bytes, read_with_history}
-use Rattle.judge.specs.Judged.{verdict_numbers}
+use Rattle.judge.specs.Judged.{JudgeAnswer, verdict_numbers, verdict_of, count_of}
 use Rattle.judge.specs.Judge.{OutcomeJudged, BytesJudged}
-use Rattle.judge.specs.declared.Judgement.{Judgement}
 use Rattle.judge.specs.declared.Verdict.{Verdict}
-use Rattle.judge.specs.declared.Verdict.TheVariants.{Passed, Tangled, Refused as NotJudged}
+use Rattle.judge.specs.declared.Verdict.TheVariants.{Passed, Tangled}
 use Rattle.judge.proofs.Uncut.{bytes_passed}
-use Rattle.classes.specs.Tested.{YesWhere, OutcomeTested, TestedAs}
-use Rattle.classes.specs.declared.Tested.{Tested}
-use Rattle.classes.specs.declared.Tested.TheVariants.{Yes, No, Refused as NotTested}
-use Rattle.islands.specs.Islands.{IslandsOf, Smallest, island_book, island_list, IslandsFound, OutcomeListed, IslandsListed, HistoryFound, OutcomeHistory, IslandHistory, PartJudged, OutcomePart, IslandJudged}
+use Rattle.classes.specs.Tested.{Tested, Yes, YesWhere, OutcomeTested, TestedAs}
+use Rattle.islands.specs.Islands.{IslandsOf, Smallest, island_book, island_list, island_steps, IslandsFound, OutcomeListed, IslandsListed, HistoryFound, OutcomeHistory, IslandHistory, PartJudged, OutcomePart, IslandJudged}
 use Rattle.islands.specs.declared.IslandList.{IslandList}
 use Rattle.islands.specs.declared.IslandSteps.{IslandSteps}
-use Rattle.capi.specs.Numbers.{judged}
+use Rattle.capi.specs.Numbers.{judged, listed_islands, listed_steps}
 use Rattle.capi.specs.Calls.{IslandsCall}
 use Rattle.capi.specs.declared.Judged.{Judged}
 use Rattle.capi.specs.declared.ListedIslands.{ListedIslands}
@@ -53,13 +51,13 @@ use Rattle.claims.proofs.IslandNames.{dec_smallest, one_name_each, same_smallest
 
 -- ---- the islands of a book that was read
 
-list_of : (s : List ℕ) (c : Contents) → read s ≡ accepted c → (r : IslandList) → IslandsListed s r → IslandsFound c r
+list_of : (s : List ℕ) (c : Contents) → read s ≡ accepted c → (r : Result IslandList Refusal) → IslandsListed s r → IslandsFound c r
 list_of s c e r h = subst (λ (o : Outcome). OutcomeListed o r) e h.listed
 
-history_of : (s : List ℕ) (c : Contents) → read s ≡ accepted c → (m : ℕ) (x : IslandSteps) → IslandHistory s m x → HistoryFound c m x
+history_of : (s : List ℕ) (c : Contents) → read s ≡ accepted c → (m : ℕ) (x : Result IslandSteps Refusal) → IslandHistory s m x → HistoryFound c m x
 history_of s c e m x h = subst (λ (o : Outcome). OutcomeHistory o m x) e h.history
 
-part_of : (s : List ℕ) (c : Contents) → read s ≡ accepted c → (m : ℕ) (order order' cycle cycle' : List ℕ) (r : Judgement) → step_limit ≤ length order → step_limit ≤ length cycle
+part_of : (s : List ℕ) (c : Contents) → read s ≡ accepted c → (m : ℕ) (order order' cycle cycle' : List ℕ) (r : JudgeAnswer) → step_limit ≤ length order → step_limit ≤ length cycle
     → IslandJudged order order' cycle cycle' s m r → PartJudged order order' cycle cycle' c m r
 part_of s c e m order order' cycle cycle' r a b j = subst (λ (o : Outcome). OutcomePart order order' cycle cycle' o m r) e (j.long a b)
 
@@ -135,45 +133,51 @@ module _ (c : Contents) (name : ℕ → ℕ) (is : IslandsOf c name) where
   }
 
 -- the same of an answer
-module _ (c : Contents) (r : IslandList) (u : IslandsFound c r) where
+module _ (c : Contents) (r : IslandList) (u : IslandsFound c (Ok r)) where
+  is_list : r ≡ island_list u.name (length c.runs)
+  is_list = let h = u.is in let z : r ≡ island_list u.name (length c.runs) = cc in z
+
   answered_smallest : (i : ℕ) → i < r.count → Smallest c u.name (get_or r.list i 0)
-  answered_smallest i h = rw (ap (λ (q : IslandList). q.list) u.is) (listed_smallest c u.name u.islands i (rw (ap (λ (q : IslandList). q.count) u.is) at h))
+  answered_smallest i h = rw (ap (λ (q : IslandList). q.list) is_list) (listed_smallest c u.name u.islands i (rw (ap (λ (q : IslandList). q.count) is_list) at h))
 
   answered_inside : (m : ℕ) (t : InList u.name (smallest_runs u.name (length c.runs)) m) → t.index < r.count
-  answered_inside m t = rw (ap (λ (q : IslandList). q.count) u.is) t.inside
+  answered_inside m t = rw (ap (λ (q : IslandList). q.count) is_list) t.inside
 
   answered_at : (m : ℕ) (t : InList u.name (smallest_runs u.name (length c.runs)) m) → get_or r.list t.index 0 ≡ m
-  answered_at m t = rw (ap (λ (q : IslandList). q.list) u.is) (list_at c u.name u.islands t.index t.inside ∙ t.is)
+  answered_at m t = rw (ap (λ (q : IslandList). q.list) is_list) (list_at c u.name u.islands t.index t.inside ∙ t.is)
 
-pub partition : (s : List ℕ) (c : Contents) → read s ≡ accepted c → (r : IslandList) → IslandsListed s r → Partition c r.runs r.smallest r.count r.list
-partition s c e r h = let w = list_of s c e r h in rw w.is (partition_of c w.name w.islands)
+pub partition : (s : List ℕ) (c : Contents) → read s ≡ accepted c → (r : Result IslandList Refusal) → IslandsListed s r
+    → (x : IslandList) × (r ≡ Ok x) × Partition c x.runs x.smallest x.count x.list
+partition s c e r h = let w = list_of s c e r h in (island_list w.name (length c.runs), w.is, partition_of c w.name w.islands)
+
+deck_partition : (s : List ℕ) (c : Contents) → read s ≡ accepted c → (r : ListedIslands) → IslandsCall s r → Partition c r.runs r.smallest r.count r.list
+deck_partition s c e r h = let p = partition s c e h.islands h.promise in rw (h.numbers ∙ ap listed_islands p.1) p.2
 
 -- ---- an island's history
 
-steps_told : (c : Contents) (m : ℕ) (x : IslandSteps) (w : HistoryFound c m x) → Smallest c w.name m → (x.answer ≡ Accepted) × (take x.count x.history ≡ component_history w.name c.history m)
-steps_told c m x w k =
-    let h = component_history w.name c.history m in
-    rw (w.found k) (refl, take-append_seam h (replicate (step_limit - length h) 0))
+steps_told : (c : Contents) (m : ℕ) (x : Result IslandSteps Refusal) (w : HistoryFound c m x) → Smallest c w.name m
+    → (y : IslandSteps) × (x ≡ Ok y) × (take y.count y.history ≡ component_history w.name c.history m)
+steps_told c m x w k = let h = component_history w.name c.history m in (island_steps h, w.found k, take-append_seam h (replicate (step_limit - length h) 0))
 
 -- an answer that is no refusal names an island
-was_smallest : (c : Contents) (m : ℕ) (x : IslandSteps) (w : HistoryFound c m x) → (answer_numbers x.answer).number ≡ 0 → Smallest c w.name m
+was_smallest : (c : Contents) (m : ℕ) (x : Result IslandSteps Refusal) (w : HistoryFound c m x) → (answer_numbers x).number ≡ 0 → Smallest c w.name m
 was_smallest c m x w z = go (dec_smallest c w.name m)
   where
     go : Dec (Smallest c w.name m) → Smallest c w.name m
     go (yes k) = k
-    go (no k) = let n : (answer_numbers x.answer).number ≡ 27 = ap (λ (y : IslandSteps). (answer_numbers y.answer).number) (w.no_island k) in absurd (omega arith)
+    go (no k) = let n : (answer_numbers x).number ≡ 27 = ap (λ (y : Result IslandSteps Refusal). (answer_numbers y).number) (w.no_island k) in absurd (omega arith)
 
-pub histories : (s : List ℕ) (c : Contents) → read s ≡ accepted c → (r : IslandList) → IslandsListed s r → (i : ℕ) → i < r.count
-    → (x : IslandSteps) → IslandHistory s (get_or r.list i 0) x → (x.answer ≡ Accepted) × StepsOnce c (get_or r.list i 0) (take x.count x.history) r.smallest
-histories s c e r h i k x y = go (list_of s c e r h)
+pub histories : (s : List ℕ) (c : Contents) → read s ≡ accepted c → (r : IslandList) → IslandsListed s (Ok r) → (i : ℕ) → i < r.count
+    → (x : Result IslandSteps Refusal) → IslandHistory s (get_or r.list i 0) x → (y : IslandSteps) × (x ≡ Ok y) × StepsOnce c (get_or r.list i 0) (take y.count y.history) r.smallest
+histories s c e r h i k x y = go (list_of s c e (Ok r) h)
   where
-    go : IslandsFound c r → (x.answer ≡ Accepted) × StepsOnce c (get_or r.list i 0) (take x.count x.history) r.smallest
+    go : IslandsFound c (Ok r) → (y : IslandSteps) × (x ≡ Ok y) × StepsOnce c (get_or r.list i 0) (take y.count y.history) r.smallest
     go w =
         let v = history_of s c e (get_or r.list i 0) x y in
         let names = one_name_each c v.name w.name v.islands w.islands in
         let here = same_smallest c (get_or r.list i 0) w.name v.name w.islands v.islands (answered_smallest c r w i k) in
         let t = steps_told c (get_or r.list i 0) x v here in
-        (t.0, rw (t.1, names, ap (λ (q : IslandList). q.smallest) w.is) (steps_once c w.name w.islands (get_or r.list i 0)))
+        (t.0, t.1, rw (t.2, names, ap (λ (q : IslandList). q.smallest) (is_list c r w)) (steps_once c w.name w.islands (get_or r.list i 0)))
 
 -- ---- an island as a book of its own
 
@@ -182,25 +186,25 @@ says_yes : (P : Contents → Type 0) (s : List ℕ) (c : Contents) → read s �
 says_yes P s c e p t w = go t (subst (λ (o : Outcome). OutcomeTested o P t) e w.tested)
   where
     go : (t : Tested) → YesWhere (P c) t → t ≡ Yes
-    go (NotTested cause at) k = absurd k
-    go Yes k = refl
-    go No k = absurd (k p)
+    go (Err refusal) k = absurd k
+    go (Ok true) k = refl
+    go (Ok false) k = absurd (k p)
 
 -- a judgement that is no refusal had buffers long enough
-long_enough : (s order order' cycle cycle' : List ℕ) (r : Judgement) → BytesJudged order order' cycle cycle' s r → (verdict_numbers r.verdict).number ≡ 0
+long_enough : (s order order' cycle cycle' : List ℕ) (r : JudgeAnswer) → BytesJudged order order' cycle cycle' s r → (verdict_numbers (verdict_of r)).number ≡ 0
     → (step_limit ≤ length order) × (step_limit ≤ length cycle)
 long_enough s order order' cycle cycle' r j z = go (dec_lt (length order) step_limit) (dec_lt (length cycle) step_limit)
   where
     refused : (length order < step_limit) ⊎ (length cycle < step_limit) → ⊥
-    refused h = let k : (verdict_numbers r.verdict).number ≡ 12 = ap (λ (n : Numbers). n.number) (j.short h).numbers in omega arith
+    refused h = let k : (verdict_numbers (verdict_of r)).number ≡ 12 = ap (λ (n : Numbers). n.number) (j.short h).numbers in omega arith
 
     go : Dec (length order < step_limit) → Dec (length cycle < step_limit) → (step_limit ≤ length order) × (step_limit ≤ length cycle)
     go (yes h) d = absurd (refused (inl h))
     go (no n) (yes h) = absurd (refused (inr h))
     go (no n) (no m) = (omega arith, omega arith)
 
-tangled_passed : Tangled ≡ Passed → ⊥
-tangled_passed e = let z : ◌≡◌ {A = ℕ} 2 1 = ap (λ (w : Verdict). (verdict_numbers w).value) e in omega arith
+tangled_passed : ◌≡◌ {A = Result Verdict Refusal} (Ok Tangled) (Ok Passed) → ⊥
+tangled_passed e = let z : ◌≡◌ {A = ℕ} 2 1 = ap (λ (w : Result Verdict Refusal). (verdict_numbers w).value) e in omega arith
 
 module _ (s : List ℕ) (c : Contents) (bytes : Bytes s) (e : read s ≡ accepted c) where
   -- no run has more done steps than steps
@@ -220,33 +224,38 @@ module _ (s : List ℕ) (c : Contents) (bytes : Bytes s) (e : read s ≡ accepte
           let z : get_or (lengths c.runs) (run c.history p) 0 ≡ 0 = get_or-eq_default (lengths c.runs) 0 (omega (arith, lengths_of c.runs)) in
           absurd (omega (arith, ordinal_lt c.history p i, own_allowed (run c.history p)))
 
-  module _ (m : ℕ) (x : IslandSteps) (y : IslandHistory s m x) (a : (answer_numbers x.answer).number ≡ 0) where
+  module _ (m : ℕ) (x : IslandSteps) (y : IslandHistory s m (Ok x)) where
+    u : HistoryFound c m (Ok x)
+    u = history_of s c e m (Ok x) y
+
+    smallest : Smallest c u.name m
+    smallest = was_smallest c m (Ok x) u refl
+
     abbrev h : List ℕ
     h = take x.count x.history
 
-    told : h ≡ component_history (history_of s c e m x y).name c.history m
-    told = (steps_told c m x (history_of s c e m x y) (was_smallest c m x (history_of s c e m x y) a)).1
+    told : h ≡ component_history u.name c.history m
+    told = let t = steps_told c m (Ok x) u smallest in let f = t.1 in let z : t.0 ≡ x = cc in subst (λ (q : IslandSteps). take q.count q.history ≡ component_history u.name c.history m) z t.2
 
     allowed : Allowed h c
-    allowed r = rw told (omega (arith, project_within (λ k. eqb ((history_of s c e m x y).name k) m) c.history r, own_allowed r))
+    allowed r = rw told (omega (arith, project_within (λ k. eqb (u.name k) m) c.history r, own_allowed r))
 
     reads : read (render (with_history c h)) ≡ accepted (with_history c h)
     reads = read_with_history s c h bytes e allowed
 
-    judged_as : (order order' cycle cycle' : List ℕ) (r : Judgement) → IslandJudged order order' cycle cycle' s m r → BytesJudged order order' cycle cycle' (render (with_history c h)) r
+    judged_as : (order order' cycle cycle' : List ℕ) (r : JudgeAnswer) → IslandJudged order order' cycle cycle' s m r → BytesJudged order order' cycle cycle' (render (with_history c h)) r
     judged_as order order' cycle cycle' r j = record { short = j.short; long = λ a b. go (part_of s c e m order order' cycle cycle' r a b j) }
       where
         go : PartJudged order order' cycle cycle' c m r → OutcomeJudged order order' cycle cycle' (read (render (with_history c h))) r
         go w =
-            let u = history_of s c e m x y in
-            let k = same_smallest c m u.name w.name u.islands w.islands (was_smallest c m x u a) in
+            let k = same_smallest c m u.name w.name u.islands w.islands smallest in
             let b : island_book c w.name m ≡ with_history c h = same_book c m w.name u.name w.islands u.islands ∙ ap (with_history c) (sym told) in
             subst (λ (o : Outcome). OutcomeJudged order order' cycle cycle' o r) (ap accepted b ∙ sym reads) (w.found k)
 
     abbrev part : List ℕ
     part = render (with_history c h)
 
-    demand : (order order' cycle cycle' : List ℕ) (r : Judgement) → IslandJudged order order' cycle cycle' s m r → (verdict_numbers r.verdict).number ≡ 0 → Demand2 (with_history c h) order' cycle' r
+    demand : (order order' cycle cycle' : List ℕ) (r : JudgeAnswer) → IslandJudged order order' cycle cycle' s m r → (verdict_numbers (verdict_of r)).number ≡ 0 → Demand2 (with_history c h) order' cycle' r
     demand order order' cycle cycle' r j z =
         let k = judged_as order order' cycle cycle' r j in
         let l = long_enough part order order' cycle cycle' r k z in
@@ -259,26 +268,26 @@ module _ (s : List ℕ) (c : Contents) (bytes : Bytes s) (e : read s ≡ accepte
       reads = reads;
       judged_as = judged_as;
       deck_judged_as = λ order order' cycle cycle' r w. record { judgement = w.judgement; promise = judged_as order order' cycle cycle' w.judgement w.promise; numbers = w.numbers };
-      order_checked = λ order order' cycle cycle' r j p t. says_yes (λ d. RelativelySerialOrder (conflict_of d) (unit_of d) d.history (take r.count order')) part (with_history c h) reads
-          ((demand order order' cycle cycle' r j (ap (λ (w : Verdict). (verdict_numbers w).number) p)).order_returned p) t;
-      cycle_checked = λ order order' cycle cycle' r j p t. says_yes (λ d. Cycle (conflict_of d) (unit_of d) d.history (take r.count cycle')) part (with_history c h) reads
-          ((demand order order' cycle cycle' r j (ap (λ (w : Verdict). (verdict_numbers w).number) p)).cycle_returned (λ q. tangled_passed (sym p ∙ q))) t;
+      order_checked = λ order order' cycle cycle' r j p t. says_yes (λ d. RelativelySerialOrder (conflict_of d) (unit_of d) d.history (take (count_of r) order')) part (with_history c h) reads
+          ((demand order order' cycle cycle' r j (ap (λ (w : Result Verdict Refusal). (verdict_numbers w).number) p)).order_returned p) t;
+      cycle_checked = λ order order' cycle cycle' r j p t. says_yes (λ d. Cycle (conflict_of d) (unit_of d) d.history (take (count_of r) cycle')) part (with_history c h) reads
+          ((demand order order' cycle cycle' r j (ap (λ (w : Result Verdict Refusal). (verdict_numbers w).number) p)).cycle_returned (λ q. tangled_passed (sym p ∙ q))) t;
     }
 
 -- ---- the whole and its islands
 
 -- a judgement of an island that is found says whether its history is relatively serializable
-part_passed : (c : Contents) (name : ℕ → ℕ) (m : ℕ) (order order' cycle cycle' : List ℕ) (r : Judgement) → OutcomeJudged order order' cycle cycle' (accepted (island_book c name m)) r
-    → (r.verdict ≡ Passed) ↔ RelativelySerializable (conflict_of c) (unit_of c) (component_history name c.history m)
-part_passed c name m order order' cycle cycle' r j = go r.verdict r.count j
+part_passed : (c : Contents) (name : ℕ → ℕ) (m : ℕ) (order order' cycle cycle' : List ℕ) (r : JudgeAnswer) → OutcomeJudged order order' cycle cycle' (accepted (island_book c name m)) r
+    → (verdict_of r ≡ Ok Passed) ↔ RelativelySerializable (conflict_of c) (unit_of c) (component_history name c.history m)
+part_passed c name m order order' cycle cycle' (Err refusal) j = absurd j
+part_passed c name m order order' cycle cycle' (Ok j) w = go j.verdict j.count w
   where
-    go : (v : Verdict) (n : ℕ) → OutcomeJudged order order' cycle cycle' (accepted (island_book c name m)) (record { verdict = v; count = n })
-        → (v ≡ Passed) ↔ RelativelySerializable (conflict_of c) (unit_of c) (component_history name c.history m)
-    go (NotJudged cause at) n k = absurd k
+    go : (v : Verdict) (n : ℕ) → OutcomeJudged order order' cycle cycle' (accepted (island_book c name m)) (Ok (record { verdict = v; count = n }))
+        → (◌≡◌ {A = Result Verdict Refusal} (Ok v) (Ok Passed)) ↔ RelativelySerializable (conflict_of c) (unit_of c) (component_history name c.history m)
     go Passed n k = (λ e. k.serializable, λ w. refl)
     go Tangled n k = (λ e. absurd (tangled_passed e), λ w. absurd (k.not_serializable w))
 
-module _ (s : List ℕ) (c : Contents) (bytes : Bytes s) (e : read s ≡ accepted c) (r : IslandList) (u : IslandsFound c r) where
+module _ (s : List ℕ) (c : Contents) (bytes : Bytes s) (e : read s ≡ accepted c) (r : IslandList) (u : IslandsFound c (Ok r)) where
   abbrev Passing : ℕ → Type 0
   Passing m = RelativelySerializable (conflict_of c) (unit_of c) (component_history u.name c.history m)
 
@@ -286,10 +295,10 @@ module _ (s : List ℕ) (c : Contents) (bytes : Bytes s) (e : read s ≡ accepte
   by_parts = components_serializable (conflict_of c) (lawful c.pairs c.runs) (unit_of c) c.history u.name u.islands (length c.runs) (runs_declared s c bytes e)
 
   -- what a judgement of an island of the list says
-  listed_passed : (i : ℕ) → i < r.count → (j : Judgement) → IslandAnswered s (get_or r.list i 0) j → (j.verdict ≡ Passed) ↔ Passing (get_or r.list i 0)
+  listed_passed : (i : ℕ) → i < r.count → (j : JudgeAnswer) → IslandAnswered s (get_or r.list i 0) j → (verdict_of j ≡ Ok Passed) ↔ Passing (get_or r.list i 0)
   listed_passed i h j x = go (part_of s c e (get_or r.list i 0) x.order x.order' x.cycle x.cycle' j x.order_long x.cycle_long x.promise)
     where
-      go : PartJudged x.order x.order' x.cycle x.cycle' c (get_or r.list i 0) j → (j.verdict ≡ Passed) ↔ Passing (get_or r.list i 0)
+      go : PartJudged x.order x.order' x.cycle x.cycle' c (get_or r.list i 0) j → (verdict_of j ≡ Ok Passed) ↔ Passing (get_or r.list i 0)
       go v =
           let k = same_smallest c (get_or r.list i 0) u.name v.name u.islands v.islands (answered_smallest c r u i h) in
           let t = part_passed c v.name (get_or r.list i 0) x.order x.order' x.cycle x.cycle' j (v.found k) in
@@ -306,20 +315,20 @@ module _ (s : List ℕ) (c : Contents) (bytes : Bytes s) (e : read s ≡ accepte
       at_index : ((i : ℕ) → i < r.count → P i) → (m : ℕ) → InList u.name (smallest_runs u.name (length c.runs)) m → Passing m
       at_index f m t = let k = answered_inside c r u m t in subst Passing (answered_at c r u m t) ((x t.index k).0 (f t.index k))
 
-pub whole : (s : List ℕ) (c : Contents) → Bytes s → read s ≡ accepted c → (r : IslandList) → IslandsListed s r → (w : Judgement) → JudgeAnswered s w
-    → (parts : ℕ → Judgement) → ((i : ℕ) → i < r.count → IslandAnswered s (get_or r.list i 0) (parts i))
-    → (w.verdict ≡ Passed) ↔ ((i : ℕ) → i < r.count → (parts i).verdict ≡ Passed)
+pub whole : (s : List ℕ) (c : Contents) → Bytes s → read s ≡ accepted c → (r : IslandList) → IslandsListed s (Ok r) → (w : JudgeAnswer) → JudgeAnswered s w
+    → (parts : ℕ → JudgeAnswer) → ((i : ℕ) → i < r.count → IslandAnswered s (get_or r.list i 0) (parts i))
+    → (verdict_of w ≡ Ok Passed) ↔ ((i : ℕ) → i < r.count → verdict_of (parts i) ≡ Ok Passed)
 whole s c bytes e r l w x parts y =
-    let u = list_of s c e r l in
-    let t = by_list s c bytes e r u (λ i. (parts i).verdict ≡ Passed) (λ i h. listed_passed s c bytes e r u i h (parts i) (y i h)) in
+    let u = list_of s c e (Ok r) l in
+    let t = by_list s c bytes e r u (λ i. verdict_of (parts i) ≡ Ok Passed) (λ i h. listed_passed s c bytes e r u i h (parts i) (y i h)) in
     let k = bytes_passed x.order x.order' x.cycle x.cycle' s w x.promise x.order_long x.cycle_long c e in
     (λ p. t.0 (k.0 p), λ f. k.1 (t.1 f))
 
 -- ---- for C
 
 -- 1 stands for passed
-is_1 : (j : Judgement) (r : Judged) → r ≡ judged (verdict_numbers j.verdict) j.count → SaysPassed r ↔ (j.verdict ≡ Passed)
-is_1 j r q = (λ p. passed_is_1 j.verdict (sym (ap judged_numbers q) ∙ p), λ p. ap judged_numbers q ∙ ap verdict_numbers p)
+is_1 : (j : JudgeAnswer) (r : Judged) → r ≡ judged (verdict_numbers (verdict_of j)) (count_of j) → SaysPassed r ↔ (verdict_of j ≡ Ok Passed)
+is_1 j r q = (λ p. passed_is_1 (verdict_of j) (sym (ap judged_numbers q) ∙ p), λ p. ap judged_numbers q ∙ ap verdict_numbers p)
 
 -- what a judgement by the call behind the entry answers
 behind : (s : List ℕ) (m : ℕ) (r : Judged) (x : DeckIslandAnswered s m r) → IslandAnswered s m x.promise.judgement
@@ -332,16 +341,16 @@ pub record Says (s : List ℕ) (m : ℕ) (P : Type 0) : Type 0 where
   pub same : P ↔ SaysPassed judged
 
 module _ (s : List ℕ) (c : Contents) (bytes : Bytes s) (e : read s ≡ accepted c) (w : Judged) (x : DeckJudgeAnswered s w) where
-  deck_by_list : (l : IslandList) → IslandsListed s l → (P : ℕ → Type 0) → ((i : ℕ) → i < l.count → Says s (get_or l.list i 0) (P i)) → SaysPassed w ↔ ((i : ℕ) → i < l.count → P i)
+  deck_by_list : (l : IslandList) → IslandsListed s (Ok l) → (P : ℕ → Type 0) → ((i : ℕ) → i < l.count → Says s (get_or l.list i 0) (P i)) → SaysPassed w ↔ ((i : ℕ) → i < l.count → P i)
   deck_by_list l p P y = (λ a. t.0 (k.0 (top.0 a)), λ f. top.1 (k.1 (t.1 f)))
     where
-      u : IslandsFound c l
-      u = list_of s c e l p
+      u : IslandsFound c (Ok l)
+      u = list_of s c e (Ok l) p
 
-      top : SaysPassed w ↔ (x.promise.judgement.verdict ≡ Passed)
+      top : SaysPassed w ↔ (verdict_of x.promise.judgement ≡ Ok Passed)
       top = is_1 x.promise.judgement w x.promise.numbers
 
-      k : (x.promise.judgement.verdict ≡ Passed) ↔ RelativelySerializable (conflict_of c) (unit_of c) c.history
+      k : (verdict_of x.promise.judgement ≡ Ok Passed) ↔ RelativelySerializable (conflict_of c) (unit_of c) c.history
       k = bytes_passed x.order x.order' x.cycle x.cycle' s x.promise.judgement x.promise.promise x.order_long x.cycle_long c e
 
       part : (i : ℕ) → i < l.count → P i ↔ Passing s c bytes e l u (get_or l.list i 0)
@@ -356,45 +365,50 @@ module _ (s : List ℕ) (c : Contents) (bytes : Bytes s) (e : read s ≡ accepte
       t = by_list s c bytes e l u P part
 
   pub deck_by_answers : (r : ListedIslands) → IslandsCall s r → (P : ℕ → Type 0) → ((i : ℕ) → i < r.count → Says s (get_or r.list i 0) (P i)) → SaysPassed w ↔ ((i : ℕ) → i < r.count → P i)
-  deck_by_answers r l = subst (λ (q : ListedIslands). (P : ℕ → Type 0) → ((i : ℕ) → i < q.count → Says s (get_or q.list i 0) (P i)) → SaysPassed w ↔ ((i : ℕ) → i < q.count → P i))
-      (sym l.numbers) (deck_by_list l.islands l.promise)
+  deck_by_answers r l =
+      let u = list_of s c e l.islands l.promise in
+      subst (λ (q : ListedIslands). (P : ℕ → Type 0) → ((i : ℕ) → i < q.count → Says s (get_or q.list i 0) (P i)) → SaysPassed w ↔ ((i : ℕ) → i < q.count → P i))
+      (sym (l.numbers ∙ ap listed_islands u.is)) (deck_by_list (island_list u.name (length c.runs)) (subst (IslandsListed s) u.is l.promise))
 
 -- there are at most as many islands as there may be runs
 pub few_islands : (s : List ℕ) (c : Contents) → Bytes s → read s ≡ accepted c → (r : ListedIslands) → IslandsCall s r → r.count ≤ run_limit
 few_islands s c bytes e r h =
     let w = list_of s c e h.islands h.promise in
-    let n : r.count ≡ length (smallest_runs w.name (length c.runs)) = ap (λ (x : ListedIslands). x.count) h.numbers ∙ ap (λ (x : IslandList). x.count) w.is in
+    let n : r.count ≡ length (smallest_runs w.name (length c.runs)) = ap (λ (x : ListedIslands). x.count) (h.numbers ∙ ap listed_islands w.is) in
     let b = accepted_book s c bytes e in
     let k : length c.runs ≤ run_limit = rw (← b.contents) (few b.well_formed).runs in
     omega (arith, smallest_few w.name (length c.runs))
 
 -- the verdict 1 for C stands for passed, of an island judged
 pub says_by_verdict : (s : List ℕ) (m v : ℕ) (r : Judged) → DeckIslandAnswered s m r → v ≡ r.verdict → (v ≡ 1) ↔ SaysPassed r
-says_by_verdict s m v r x e = (λ z. t.1 (go j.verdict (sym q ∙ sym e ∙ z)), λ p. e ∙ q ∙ ap (λ (w : Verdict). (verdict_numbers w).value) (t.0 p))
+says_by_verdict s m v r x e = (λ z. t.1 (go (verdict_of j) (sym q ∙ sym e ∙ z)), λ p. e ∙ q ∙ ap (λ (w : Result Verdict Refusal). (verdict_numbers w).value) (t.0 p))
   where
-    j : Judgement
+    j : JudgeAnswer
     j = x.promise.judgement
 
-    t : SaysPassed r ↔ (j.verdict ≡ Passed)
+    t : SaysPassed r ↔ (verdict_of j ≡ Ok Passed)
     t = is_1 j r x.promise.numbers
 
-    q : r.verdict ≡ (verdict_numbers j.verdict).value
+    q : r.verdict ≡ (verdict_numbers (verdict_of j)).value
     q = ap (λ (y : Judged). y.verdict) x.promise.numbers
 
-    go : (w : Verdict) → (verdict_numbers w).value ≡ 1 → w ≡ Passed
-    go (NotJudged cause at) z = absurd (omega arith)
-    go Passed z = refl
-    go Tangled z = absurd (omega arith)
+    go : (w : Result Verdict Refusal) → (verdict_numbers w).value ≡ 1 → w ≡ Ok Passed
+    go (Err refusal) z = absurd (omega arith)
+    go (Ok Passed) z = refl
+    go (Ok Tangled) z = absurd (omega arith)
 
 -- ---- the claims
 
 pub island_claims : IslandClaims
 island_claims = record {
   partition = partition;
-  deck_partition = λ s c e r h. rw h.numbers (partition s c e h.islands h.promise);
+  deck_partition = deck_partition;
   histories = histories;
-  books = λ s c b e m x h a. as_its_book s c b e m x h (ap (λ (y : Answer). (answer_numbers y).number) a);
-  deck_books = λ s c b e m x h z. rw h.numbers (as_its_book s c b e m h.steps h.promise (sym (ap (λ (y : ListedSteps). y.number) h.numbers) ∙ z));
+  books = as_its_book;
+  deck_books = λ s c b e m x h z.
+      let u = history_of s c e m h.steps h.promise in
+      let t = steps_told c m h.steps u (was_smallest c m h.steps u (sym (ap (λ (y : ListedSteps). y.number) h.numbers) ∙ z)) in
+      rw (h.numbers ∙ ap listed_steps t.1) (as_its_book s c b e m t.0 (subst (IslandHistory s m) t.1 h.promise));
   whole = whole;
   deck_whole = λ s c b e r l w x parts y. deck_by_answers s c b e w x r l (λ i. SaysPassed (parts i)) (λ i h. record { judged = parts i; answered = y i h; same = (λ q. q, λ q. q) });
 }

@@ -1,4 +1,5 @@
 -- The refusals of a judgement of a book or of an island: 12 comes first, then those of what is judged.
+use Rattle.std.specs.Prelude.{Ok, Err}
 use Prim.Native.Nat.{ℕ, ◌≤◌, ◌<◌}
 use native.Mathlib.Decide.{dec_lt}
 use native.Mathlib.Omega.{arith}
@@ -10,11 +11,10 @@ use Rattle.book.specs.Format.{Contents, accepted}
 use Rattle.book.specs.Numbers.{refused_with, value_of}
 use Rattle.book.specs.declared.Cause.{Cause}
 use Rattle.book.specs.declared.Cause.TheVariants.{JudgeBufferShort}
-use Rattle.judge.specs.Judged.{verdict_numbers}
+use Rattle.judge.specs.Judged.{JudgeAnswer, verdict_numbers, count_of, verdict_of}
 use Rattle.judge.specs.Judge.{RefusedAs, OutcomeJudged}
-use Rattle.judge.specs.declared.Judgement.{Judgement}
 use Rattle.judge.specs.declared.Verdict.{Verdict}
-use Rattle.judge.specs.declared.Verdict.TheVariants.{Passed, Tangled, Refused as NotJudged}
+use Rattle.judge.specs.declared.Verdict.TheVariants.{Passed, Tangled}
 use Rattle.table.specs.BookTable.{most_steps}
 use Rattle.claims.specs.Demands.{TurnsAway, BuffersUnchanged}
 use Rattle.claims.proofs.Turned.{turned, carried}
@@ -25,21 +25,24 @@ pub data JudgeRowBy (R : ℕ → ℕ → Type 0) (order cycle : List ℕ) : ℕ 
   short_second : length cycle < most_steps → JudgeRowBy R order cycle 12 0
   behind_12 : {n place : ℕ} → most_steps ≤ length order → most_steps ≤ length cycle → R n place → JudgeRowBy R order cycle n place
 
-module _ (R : ℕ → ℕ → Type 0) (order order' cycle cycle' : List ℕ) (r : Judgement) where
+module _ (R : ℕ → ℕ → Type 0) (order order' cycle cycle' : List ℕ) (r : JudgeAnswer) where
   abbrev Same : Type 0
-  Same = BuffersUnchanged order order' cycle cycle' r.count
+  Same = BuffersUnchanged order order' cycle cycle' (count_of r)
 
   pub buffers_unchanged : (cause : Cause) (at : ℕ) → RefusedAs order order' cycle cycle' cause at r → Same
   buffers_unchanged cause at k = record { order_same = k.order_unchanged; cycle_same = k.cycle_unchanged; no_count = k.count_is }
 
   -- a history that was judged is not refused
-  pub judged_carried : (c : Contents) → OutcomeJudged order order' cycle cycle' (accepted c) r → ((m at : ℕ) → ¬ R m at) → TurnsAway R (verdict_numbers r.verdict) Same
-  judged_carried c k none = go r.verdict r.count k
+  pub judged_carried : (c : Contents) → OutcomeJudged order order' cycle cycle' (accepted c) r → ((m at : ℕ) → ¬ R m at) → TurnsAway R (verdict_numbers (verdict_of r)) Same
+  judged_carried c k none = go r k
     where
-      go : (v : Verdict) (n : ℕ) → OutcomeJudged order order' cycle cycle' (accepted c) (record { verdict = v; count = n }) → TurnsAway R (verdict_numbers v) Same
-      go (NotJudged cause at) n k = absurd k
-      go Passed n k = carried R Same (value_of 1) refl none
-      go Tangled n k = carried R Same (value_of 2) refl none
+      by_verdict : (v : Verdict) → TurnsAway R (verdict_numbers (Ok v)) Same
+      by_verdict Passed = carried R Same (value_of 1) refl none
+      by_verdict Tangled = carried R Same (value_of 2) refl none
+
+      go : (x : JudgeAnswer) → OutcomeJudged order order' cycle cycle' (accepted c) x → TurnsAway R (verdict_numbers (verdict_of x)) Same
+      go (Err refusal) k = absurd k
+      go (Ok j) k = by_verdict j.verdict
 
   -- 12 comes first
   only_12 : (length order < most_steps) ⊎ (length cycle < most_steps) → (m at : ℕ) → JudgeRowBy R order cycle m at → (12 ≡ m) × (0 ≡ at)
@@ -55,16 +58,16 @@ module _ (R : ℕ → ℕ → Type 0) (order order' cycle cycle' : List ℕ) (r 
   only_others a b (behind_12 x y z) = z
 
   pub by_buffers : ((length order < most_steps) ⊎ (length cycle < most_steps) → RefusedAs order order' cycle cycle' JudgeBufferShort 0 r)
-      → (most_steps ≤ length order → most_steps ≤ length cycle → TurnsAway R (verdict_numbers r.verdict) Same)
-      → TurnsAway (JudgeRowBy R order cycle) (verdict_numbers r.verdict) Same
+      → (most_steps ≤ length order → most_steps ≤ length cycle → TurnsAway R (verdict_numbers (verdict_of r)) Same)
+      → TurnsAway (JudgeRowBy R order cycle) (verdict_numbers (verdict_of r)) Same
   by_buffers short long = go (dec_lt (length order) most_steps) (dec_lt (length cycle) most_steps)
     where
-      by_12 : (length order < most_steps) ⊎ (length cycle < most_steps) → JudgeRowBy R order cycle 12 0 → TurnsAway (JudgeRowBy R order cycle) (verdict_numbers r.verdict) Same
+      by_12 : (length order < most_steps) ⊎ (length cycle < most_steps) → JudgeRowBy R order cycle 12 0 → TurnsAway (JudgeRowBy R order cycle) (verdict_numbers (verdict_of r)) Same
       by_12 h x =
           let k = short h in
-          rw k.verdict_is (turned (JudgeRowBy R order cycle) Same (refused_with JudgeBufferShort 0) x refl (buffers_unchanged JudgeBufferShort 0 k) (only_12 h))
+          rw k.numbers (turned (JudgeRowBy R order cycle) Same (refused_with JudgeBufferShort 0) x refl (buffers_unchanged JudgeBufferShort 0 k) (only_12 h))
 
-      go : Dec (length order < most_steps) → Dec (length cycle < most_steps) → TurnsAway (JudgeRowBy R order cycle) (verdict_numbers r.verdict) Same
+      go : Dec (length order < most_steps) → Dec (length cycle < most_steps) → TurnsAway (JudgeRowBy R order cycle) (verdict_numbers (verdict_of r)) Same
       go (yes h) d = by_12 (inl h) (short_first h)
       go (no n) (yes h) = by_12 (inr h) (short_second h)
       go (no n) (no m) =

@@ -1,4 +1,5 @@
 -- The demands exclude document 01's lazy programs, by its rows and by computation.
+use Rattle.std.specs.Prelude.{Result, Ok}
 use Prim.Native.Nat.{ℕ, zero, suc, ◌≤◌, ◌<◌}
 use native.Mathlib.Decide.{ℕ_discrete, dec_lt, dec_le}
 use native.Mathlib.Omega.{arith}
@@ -27,6 +28,8 @@ use Rattle.book.specs.Render.{render}
 use Rattle.book.specs.Meaning.{conflict_of, unit_of}
 use Rattle.book.proofs.Histories.{history_book}
 use Rattle.book.proofs.RoundTrip.{accepted_book, read_render, render_bytes}
+use Rattle.book.specs.declared.Refusal.{Refusal}
+use Rattle.judge.specs.declared.Verdict.{Verdict}
 use Rattle.judge.specs.declared.Verdict.TheVariants.{Passed, Tangled}
 use Rattle.plain.specs.Plain.{step, withdraw, Answer, place, withdrawn, refused, State, newly_opened, keep, withdraw_run, Eligible, was_withdrawn, PlainCall, step_refused, step_tangled, step_kept, withdraws, PlainCalls, none, next}
 use Rattle.plain.specs.Demand.{At, here, there, Moment}
@@ -145,7 +148,7 @@ fourth_not_refused (there (there (there t))) = let e = first t in let z : ◌≡
 
 -- ---- the judges
 
-tangled_not_passed : Tangled ≢ Passed
+tangled_not_passed : ◌≢◌ {A = Result Verdict Refusal} (Ok Tangled) (Ok Passed)
 tangled_not_passed e = let z : ◌≡◌ {A = ℕ} 0 1 = cc in omega arith
 
 -- an order that agrees has the places of a conflicting pair in the history's order

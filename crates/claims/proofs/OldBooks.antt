@@ -1,4 +1,5 @@
 -- Old books give what they gave: their conflict is the earlier one, as a function, and a contract that speaks of the one speaks of the other.
+use Rattle.std.specs.Prelude.{Ok}
 use Prim.Native.Nat.{ℕ, ◌*◌, ◌≤◌, ◌<◌}
 use native.Mathlib.Omega.{arith}
 use mathlib.Core.Path.{◌≡◌, sym, subst, ◌∙◌}
@@ -17,22 +18,16 @@ use Rattle.book.specs.Meaning.{conflict_of, unit_of}
 use Rattle.book.specs.Book.{pairs_of}
 use Rattle.book.proofs.EarlierReader.{earlier_reader}
 use Rattle.dependence.specs.Marks.{Marks}
-use Rattle.judge.specs.Judged.{JudgedAs}
+use Rattle.judge.specs.Judged.{JudgeAnswer, JudgementAs}
 use Rattle.judge.specs.Judge.{OutcomeJudged, BytesJudged}
-use Rattle.judge.specs.declared.Judgement.{Judgement}
-use Rattle.classes.specs.Tested.{YesWhere, OutcomeTested, TestedAs}
-use Rattle.classes.specs.declared.Tested.{Tested}
+use Rattle.classes.specs.Tested.{Tested, YesWhere, OutcomeTested, TestedAs}
 use Rattle.names.specs.declared.ArcNames.{ArcNames}
-use Rattle.evidence.specs.Named.{OutcomeNamed, NamedAs}
-use Rattle.evidence.specs.declared.Named.{Named}
-use Rattle.evidence.specs.declared.Named.TheVariants.{Arcs}
+use Rattle.evidence.specs.Named.{Named, OutcomeNamed, NamedAs}
 use Rattle.plain.specs.Plain.{Call, newly_opened, PlainCall, PlainCallBy, PlainCallsBy}
-use Rattle.gate.specs.Gate.{answer_of, book_of, state_of, Sound, CalledAs, on_sound}
+use Rattle.gate.specs.Gate.{Replied, answer_of, book_of, state_of, Sound, CalledAs, on_sound}
 use Rattle.replay.specs.Replay.{calls_of, answers_in, played_by, Replays}
 use Rattle.gate.specs.declared.Gate.{Gate}
-use Rattle.replay.specs.declared.Played.TheVariants.{Done}
 use Rattle.replay.specs.declared.Replayed.{Replayed}
-use Rattle.gate.specs.declared.Reply.{Reply}
 use Rattle.gate.proofs.Records.{sound_call}
 use Rattle.gate.proofs.Chained.{opened_plain}
 use Rattle.report.specs.Text.{Report, refused_at, accepted_with, text_of}
@@ -49,8 +44,8 @@ module _ (earlier : List Pair → List (List Step) → ℕ → ℕ → ℕ → �
     of_contents : (P : Outcome → Type 0) → P (read s) ↔ P (accepted c)
     of_contents P = both_ways P book
 
-    judged_before : (order order' cycle cycle' : List ℕ) (r : Judgement) → step_limit ≤ length order → step_limit ≤ length cycle
-        → BytesJudged order order' cycle cycle' s r ↔ JudgedAs (earlier_of earlier c) (unit_of c) c.history order order' cycle cycle' r.verdict r.count
+    judged_before : (order order' cycle cycle' : List ℕ) (r : JudgeAnswer) → step_limit ≤ length order → step_limit ≤ length cycle
+        → BytesJudged order order' cycle cycle' s r ↔ JudgementAs (earlier_of earlier c) (unit_of c) c.history order order' cycle cycle' r
     judged_before order order' cycle cycle' r lo lc = (
       λ w. there.0 (on.0 (w.long lo lc)),
       λ j. record { short = λ h. absurd (not_short h); long = λ _ _. on.1 (there.1 j) },
@@ -59,9 +54,9 @@ module _ (earlier : List Pair → List (List Step) → ℕ → ℕ → ℕ → �
         on : OutcomeJudged order order' cycle cycle' (read s) r ↔ OutcomeJudged order order' cycle cycle' (accepted c) r
         on = of_contents (λ o. OutcomeJudged order order' cycle cycle' o r)
 
-        there : JudgedAs (conflict_of c) (unit_of c) c.history order order' cycle cycle' r.verdict r.count
-            ↔ JudgedAs (earlier_of earlier c) (unit_of c) c.history order order' cycle cycle' r.verdict r.count
-        there = both_ways (λ k. JudgedAs k (unit_of c) c.history order order' cycle cycle' r.verdict r.count) same
+        there : JudgementAs (conflict_of c) (unit_of c) c.history order order' cycle cycle' r
+            ↔ JudgementAs (earlier_of earlier c) (unit_of c) c.history order order' cycle cycle' r
+        there = both_ways (λ k. JudgementAs k (unit_of c) c.history order order' cycle cycle' r) same
 
         not_short : (length order < step_limit) ⊎ (length cycle < step_limit) → ⊥
         not_short (inl h) = omega arith
@@ -95,7 +90,7 @@ module _ (earlier : List Pair → List (List Step) → ℕ → ℕ → ℕ → �
         Before o = OutcomeNamed o (λ b. N (earlier_of earlier b) b) r
 
         there : Now (accepted c) ↔ Before (accepted c)
-        there = both_ways (λ k. r ≡ Arcs (N k c)) same
+        there = both_ways (λ k. r ≡ Ok (N k c)) same
 
     reported_before : (text text' : List ℕ) (n : ℕ) → Reports (read s) text text' n ↔ ReportedBefore earlier c text text' n
     reported_before text text' n = (
@@ -111,7 +106,7 @@ module _ (earlier : List Pair → List (List Step) → ℕ → ℕ → ℕ → �
         to (refused_at m at) on p = absurd on
         to (accepted_with w) on p = record { findings = w; right = subst (λ k. FindingsBy k c w) same on; put = p }
 
-    replayed_before : (calls answers answers' : List ℕ) (r : Replayed) (n : ℕ) → Replays s calls answers answers' r → played_by (read s) calls (length answers) ≡ Done n
+    replayed_before : (calls answers answers' : List ℕ) (r : Replayed) (n : ℕ) → Replays s calls answers answers' r → played_by (read s) calls (length answers) ≡ Ok n
         → ReplayedBefore earlier c calls answers answers' (state_of r.gate)
     replayed_before calls answers answers' r n w e =
         let made = w.calls_made c n book (w.played ∙ e) in
@@ -145,7 +140,7 @@ module _ (earlier : List Pair → List (List Step) → ℕ → ℕ → ℕ → �
     }
 
   module _ (g : Gate) (sound : Sound g) (same : conflict_of (book_of g) ≡ earlier_of earlier (book_of g)) where
-    called_before : (h : Gate) (x : Call) (a : Reply) → CalledAs g x a h ↔ CalledBefore earlier g x a h
+    called_before : (h : Gate) (x : Call) (a : Replied) → CalledAs g x a h ↔ CalledBefore earlier g x a h
     called_before h x a = (
       λ w. let v = sound_call sound w in record { plain = there.0 v.plain; book = v.book; sound = v.sound },
       λ w. on_sound sound (record { plain = there.1 w.plain; book = w.book; sound = w.sound }),

@@ -1,5 +1,6 @@
 -- Demand 1: each call's refusals are the rows of the documents' table. A call that reads a book is refused as the book is, by table's
 -- proofs/BookTable; a call's own rows are the cases of its contract.
+use Rattle.std.specs.Prelude.{Result, Err, Ok}
 use Prim.Native.Nat.{ℕ, suc, ◌+◌, ◌*◌, ◌≤◌, ◌<◌}
 use native.Mathlib.Decide.{ℕ_discrete}
 use native.Mathlib.Omega.{arith}
@@ -13,33 +14,25 @@ use lib.Dec.{eqb, leb}
 use Rattle.buffer.specs.Put.{Put}
 use Rattle.book.specs.Format.{Contents, Outcome, refused, accepted, pick, read}
 use Rattle.book.specs.Numbers.{number, Numbers, refused_with, value_of, reading_numbers}
-use Rattle.book.specs.Book.{outcome_of, empty_book, ReadAs}
+use Rattle.book.specs.Book.{refusal_at, contents_of, outcome_of, ReadAs}
 use Rattle.book.specs.declared.Cause.{Cause}
 use Rattle.book.specs.declared.Cause.TheVariants.{WriterBufferShort, NoCall, AnswersShort, Damaged}
-use Rattle.book.specs.declared.Reading.{Reading}
-use Rattle.writer.specs.Written.{written_numbers, written_by, buffer_by, Wrote}
-use Rattle.writer.specs.declared.Written.{Written}
-use Rattle.writer.specs.declared.Written.TheVariants.{Length, Refused as NotWritten}
-use Rattle.judge.specs.Judged.{verdict_numbers}
+use Rattle.book.specs.declared.Book.{Book}
+use Rattle.book.specs.declared.Refusal.{Refusal as RefusalValue}
+use Rattle.writer.specs.Written.{Written, written_numbers, written_by, buffer_by, Wrote}
+use Rattle.judge.specs.Judged.{JudgeAnswer, verdict_numbers, count_of, verdict_of}
 use Rattle.judge.specs.Judge.{OutcomeJudged, BytesJudged}
-use Rattle.judge.specs.declared.Judgement.{Judgement}
-use Rattle.classes.specs.Tested.{tested_numbers, YesWhere, OutcomeTested, TestedAs}
-use Rattle.classes.specs.declared.Tested.{Tested}
-use Rattle.classes.specs.declared.Tested.TheVariants.{Yes, No, Refused as NotTested}
+use Rattle.classes.specs.Tested.{Tested, tested_numbers, YesWhere, OutcomeTested, TestedAs}
 use Rattle.names.specs.Names.{names_value}
 use Rattle.names.specs.declared.ArcNames.{ArcNames}
-use Rattle.evidence.specs.Named.{named_numbers, OutcomeNamed, NamedAs}
-use Rattle.evidence.specs.declared.Named.{Named}
+use Rattle.evidence.specs.Named.{Named, named_numbers, OutcomeNamed, NamedAs}
 use Rattle.plain.specs.Plain.{Call, step, withdraw, take_back, Answer, refused as refused_by_number, State, PlainCall, step_refused, step_tangled, step_kept, withdraw_refused, withdraws, take_back_refused, takes_back, Refusal, not_declared, was_withdrawn, all_kept, TakeBackRefusal, undeclared, was_taken_back}
-use Rattle.gate.specs.Gate.{answer_of, reply_numbers, book_of, state_of, Sound, opening_numbers, opening_answer, opened_book, OpenedAs, CalledAs, on_sound, on_damaged}
-use Rattle.replay.specs.Replay.{is_call, calls_of, bad_at, played_numbers, played_by, Replays}
+use Rattle.gate.specs.Gate.{Replied, answer_of, reply_numbers, book_of, state_of, Sound, opening_numbers, opening_answer, opened_book, OpenedAs, CalledAs, on_sound, on_damaged}
+use Rattle.replay.specs.Replay.{Played, is_call, calls_of, bad_at, played_numbers, played_by, Replays}
 use Rattle.gate.specs.declared.Gate.{Gate}
 use Rattle.gate.specs.declared.Opened.{Opened}
 use Rattle.replay.specs.declared.Replayed.{Replayed}
-use Rattle.replay.specs.declared.Played.{Played}
-use Rattle.replay.specs.declared.Played.TheVariants.{Done, Refused as NotPlayed}
-use Rattle.gate.specs.declared.Reply.{Reply}
-use Rattle.gate.specs.declared.Reply.TheVariants.{Place, Withdrawn, TakenBack, Refused}
+use Rattle.gate.specs.declared.Reply.TheVariants.{Place, Withdrawn, TakenBack}
 use Rattle.plain.proofs.PlainGate.{single}
 use Rattle.gate.proofs.Unchanged.{refused_unchanged}
 use Rattle.replay.proofs.Replays.{whole_calls}
@@ -55,14 +48,16 @@ use Rattle.claims.proofs.EachNumber.{each_number}
 
 -- ---- calls that read a book and have no refusal of their own
 
-read_turns : (s : List ℕ) (r : Reading) → ReadAs (read s) r → TurnsAway (BookRow s) (reading_numbers (outcome_of r)) (r.book ≡ empty_book)
-read_turns s r h = rw h.outcome (outcome_turns s (r.book ≡ empty_book) (read s) refl h.empty)
+read_turns : (s : List ℕ) (r : Result Book RefusalValue) → ReadAs (read s) r → TurnsAway (BookRow s) (reading_numbers (outcome_of r)) ((b : Book) → r ≢ Ok b)
+read_turns s (Ok b) h = outcome_turns s ((k : Book) → Ok b ≢ Ok k) (accepted (contents_of b)) h.outcome (λ cause at e. let z : ◌≡◌ {A = ℕ} 0 1 = cc in absurd (omega arith))
+read_turns s (Err refusal) h =
+    outcome_turns s ((k : Book) → Err refusal ≢ Ok k) (refused refusal.cause refusal.place) h (λ cause at e k f. let z : ◌≡◌ {A = ℕ} 0 1 = cc in omega arith)
 
 module _ (P : Contents → Type 0) (s : List ℕ) where
   test_accepted : (c : Contents) → read s ≡ accepted c → (r : Tested) → YesWhere (P c) r → TurnsAway (BookRow s) (tested_numbers r) (Unit {0})
-  test_accepted c e (NotTested cause at) t = absurd t
-  test_accepted c e Yes t = book_accepted s (Unit {0}) c (value_of 1) e refl
-  test_accepted c e No t = book_accepted s (Unit {0}) c (value_of 0) e refl
+  test_accepted c e (Err refusal) t = absurd t
+  test_accepted c e (Ok true) t = book_accepted s (Unit {0}) c (value_of 1) e refl
+  test_accepted c e (Ok false) t = book_accepted s (Unit {0}) c (value_of 0) e refl
 
   test_turns : (r : Tested) → TestedAs P s r → TurnsAway (BookRow s) (tested_numbers r) (Unit {0})
   test_turns r h = go (read s) refl h.tested
@@ -87,8 +82,8 @@ open_turns s o h = rw h.answer (go (read s) refl h.book)
 
 -- ---- the judge
 
-judge_turns : (s order order' cycle cycle' : List ℕ) (r : Judgement) → BytesJudged order order' cycle cycle' s r
-    → TurnsAway (JudgeRow s order cycle) (verdict_numbers r.verdict) (BuffersUnchanged order order' cycle cycle' r.count)
+judge_turns : (s order order' cycle cycle' : List ℕ) (r : JudgeAnswer) → BytesJudged order order' cycle cycle' s r
+    → TurnsAway (JudgeRow s order cycle) (verdict_numbers (verdict_of r)) (BuffersUnchanged order order' cycle cycle' (count_of r))
 judge_turns s order order' cycle cycle' r j = same_rows to from (by_buffers (BookRow s) order order' cycle cycle' r j.short (λ a b. go (read s) refl (j.long a b)))
   where
     to : (m at : ℕ) → JudgeRowBy (BookRow s) order cycle m at → JudgeRow s order cycle m at
@@ -101,8 +96,8 @@ judge_turns s order order' cycle cycle' r j = same_rows to from (by_buffers (Boo
     from _ _ (cycle_short l) = short_second l
     from _ _ (judged_book a b x) = behind_12 a b x
 
-    go : (o : Outcome) → read s ≡ o → OutcomeJudged order order' cycle cycle' o r → TurnsAway (BookRow s) (verdict_numbers r.verdict) (BuffersUnchanged order order' cycle cycle' r.count)
-    go (refused cause at) e k = rw k.verdict_is (book_refused s (BuffersUnchanged order order' cycle cycle' r.count) cause at e (buffers_unchanged (BookRow s) order order' cycle cycle' r cause at k))
+    go : (o : Outcome) → read s ≡ o → OutcomeJudged order order' cycle cycle' o r → TurnsAway (BookRow s) (verdict_numbers (verdict_of r)) (BuffersUnchanged order order' cycle cycle' (count_of r))
+    go (refused cause at) e k = rw k.numbers (book_refused s (BuffersUnchanged order order' cycle cycle' (count_of r)) cause at e (buffers_unchanged (BookRow s) order order' cycle cycle' r cause at k))
     go (accepted c) e k = judged_carried (BookRow s) order order' cycle cycle' r c k (accepted_no_row s c e)
 
 -- ---- the writer
@@ -120,8 +115,8 @@ module _ (s out out' : List ℕ) where
     not_shorter h m at (written_book x) = accepted_no_row s c e m at x
     not_shorter h m at (shorter_than_the_book x l) = omega arith
 
-    write_accepted : (fits : Bool) → leb (length s) (length out) ≡ fits → out' ≡ buffer_by (pick fits (Length (length s)) (NotWritten WriterBufferShort 0)) s out
-        → WriterTurns (pick fits (Length (length s)) (NotWritten WriterBufferShort 0))
+    write_accepted : (fits : Bool) → leb (length s) (length out) ≡ fits → out' ≡ buffer_by (pick fits (Ok (length s)) (Err (refusal_at WriterBufferShort 0))) s out
+        → WriterTurns (pick fits (Ok (length s)) (Err (refusal_at WriterBufferShort 0)))
     write_accepted true q b = carried (WriterRow s out) (out' ≡ out) (value_of (length s)) refl (not_shorter (leb-true (length s) (length out) q))
     write_accepted false q b =
         turned (WriterRow s out) (out' ≡ out) (refused_with WriterBufferShort 0) (shorter_than_the_book (accepted_no_row s c e) (leb-false (length s) (length out) q)) refl b only_13
@@ -141,11 +136,11 @@ module _ (s out out' : List ℕ) where
 
 -- ---- step, withdraw and take back
 
-refused_numbers : {n : ℕ} (a : Reply) → answer_of a ≡ refused_by_number n → ((reply_numbers a).number ≡ n) × ((reply_numbers a).place ≡ 0)
-refused_numbers (Place p) e = let z : ◌≡◌ {A = ℕ} 0 1 = cc in absurd (omega arith)
-refused_numbers Withdrawn e = let z : ◌≡◌ {A = ℕ} 0 1 = cc in absurd (omega arith)
-refused_numbers TakenBack e = let z : ◌≡◌ {A = ℕ} 0 1 = cc in absurd (omega arith)
-refused_numbers (Refused cause) e = (cc, refl)
+refused_numbers : {n : ℕ} (a : Replied) → answer_of a ≡ refused_by_number n → ((reply_numbers a).number ≡ n) × ((reply_numbers a).place ≡ 0)
+refused_numbers (Ok (Place p)) e = let z : ◌≡◌ {A = ℕ} 0 1 = cc in absurd (omega arith)
+refused_numbers (Ok Withdrawn) e = let z : ◌≡◌ {A = ℕ} 0 1 = cc in absurd (omega arith)
+refused_numbers (Ok TakenBack) e = let z : ◌≡◌ {A = ℕ} 0 1 = cc in absurd (omega arith)
+refused_numbers (Err cause) e = (cc, refl)
 
 module _ (g : Gate) (y : Sound g) where
   -- a row that applies is a rule of the plain gate
@@ -192,7 +187,7 @@ only_26 g n (row_32 y d w) = absurd (n y)
 only_26 g n (row_26 z) = (refl, refl)
 
 module _ (g h : Gate) (x : Call) where
-  call_turns : (a : Reply) → CalledAs g x a h → TurnsAway (GateRow g x) (reply_numbers a) (h ≡ g)
+  call_turns : (a : Replied) → CalledAs g x a h → TurnsAway (GateRow g x) (reply_numbers a) (h ≡ g)
   call_turns a (on_damaged n e f) = rw e (turned (GateRow g x) (h ≡ g) (refused_with Damaged 0) (row_26 n) refl f (λ m at r. only_26 g n r))
   call_turns a (on_sound y w) = record {
     row = λ z. go a z w.plain;
@@ -205,23 +200,23 @@ module _ (g h : Gate) (x : Call) where
         (q.0, q.1 ∙ sym p.1);
   }
     where
-      go : (b : Reply) → (reply_numbers b).number ≢ 0 → PlainCall (book_of g) (state_of g) x (answer_of b) (state_of h) → GateRow g x (reply_numbers b).number (reply_numbers b).place
-      go (Place p) z c = absurd (z refl)
-      go Withdrawn z c = absurd (z refl)
-      go TakenBack z c = absurd (z refl)
-      go (Refused cause) z c = rule_row g y (number cause) c refl
+      go : (b : Replied) → (reply_numbers b).number ≢ 0 → PlainCall (book_of g) (state_of g) x (answer_of b) (state_of h) → GateRow g x (reply_numbers b).number (reply_numbers b).place
+      go (Ok (Place p)) z c = absurd (z refl)
+      go (Ok Withdrawn) z c = absurd (z refl)
+      go (Ok TakenBack) z c = absurd (z refl)
+      go (Err cause) z c = rule_row g y (number cause) c refl
 
-      none : (b : Reply) → (reply_numbers b).number ≢ 0 → (reply_numbers b).value ≡ 0
-      none (Place p) z = absurd (z refl)
-      none Withdrawn z = refl
-      none TakenBack z = refl
-      none (Refused cause) z = refl
+      none : (b : Replied) → (reply_numbers b).number ≢ 0 → (reply_numbers b).value ≡ 0
+      none (Ok (Place p)) z = absurd (z refl)
+      none (Ok Withdrawn) z = refl
+      none (Ok TakenBack) z = refl
+      none (Err cause) z = refl
 
-      same : (b : Reply) → (reply_numbers b).number ≢ 0 → CalledAs g x b h → h ≡ g
-      same (Place p) z c = absurd (z refl)
-      same Withdrawn z c = absurd (z refl)
-      same TakenBack z c = absurd (z refl)
-      same (Refused cause) z c = refused_unchanged g h x cause c
+      same : (b : Replied) → (reply_numbers b).number ≢ 0 → CalledAs g x b h → h ≡ g
+      same (Ok (Place p)) z c = absurd (z refl)
+      same (Ok Withdrawn) z c = absurd (z refl)
+      same (Ok TakenBack) z c = absurd (z refl)
+      same (Err cause) z c = refused_unchanged g h x cause c
 
 -- ---- the replay
 
@@ -279,13 +274,13 @@ module _ (s calls answers : List ℕ) (U : Type 0) where
 
   module _ (c : Contents) (e : read s ≡ accepted c) where
     abbrev by_room : Bool → Played
-    by_room fits = pick fits (Done (length (calls_of calls))) (NotPlayed AnswersShort 0)
+    by_room fits = pick fits (Ok (length (calls_of calls))) (Err (refusal_at AnswersShort 0))
 
     abbrev by_calls : Bool → Bool → Played
-    by_calls whole fits = pick whole (by_room fits) (NotPlayed NoCall (bad_at 0 calls))
+    by_calls whole fits = pick whole (by_room fits) (Err (refusal_at NoCall (bad_at 0 calls)))
 
     play_accepted : (whole fits : Bool) → eqb (bad_at 0 calls) (length calls) ≡ whole → leb (2 * length (calls_of calls)) (length answers) ≡ fits
-        → (((n : ℕ) → by_calls whole fits ≢ Done n) → U) → ReplayTurns (by_calls whole fits)
+        → (((n : ℕ) → by_calls whole fits ≢ Ok n) → U) → ReplayTurns (by_calls whole fits)
     play_accepted false fits p q u =
         turned (ReplayRow s calls answers) U (refused_with NoCall (bad_at 0 calls)) (no_call (accepted_no_row s c e) (bad_no_call calls low)) refl (u (λ n k. let z : ◌≡◌ {A = ℕ} 0 1 = cc in omega arith)) only_24
       where
@@ -311,7 +306,7 @@ module _ (s calls answers : List ℕ) (U : Type 0) where
         no_row m at (no_call x l) = no_bad_call calls p l
         no_row m at (answers_short x k l) = omega (arith, leb-true (2 * length (calls_of calls)) (length answers) q, whole_bytes calls p)
 
-  play_turns : (o : Outcome) → read s ≡ o → (((n : ℕ) → played_by o calls (length answers) ≢ Done n) → U) → ReplayTurns (played_by o calls (length answers))
+  play_turns : (o : Outcome) → read s ≡ o → (((n : ℕ) → played_by o calls (length answers) ≢ Ok n) → U) → ReplayTurns (played_by o calls (length answers))
   play_turns (refused cause at) e u =
       let row = refused_row s cause at e in
       turned (ReplayRow s calls answers) U (refused_with cause at) (replayed_book row) refl (u (λ n k. let z : ◌≡◌ {A = ℕ} 0 1 = cc in omega arith)) (λ m p x. as_book row m p x)
@@ -330,7 +325,7 @@ replay_turns s calls answers answers' r w =
 
 -- where no row applies all calls are made
 pub all_played : (s calls answers answers' : List ℕ) (r : Replayed) → Replays s calls answers answers' r → (c : Contents) → read s ≡ accepted c → ((m at : ℕ) → ¬ ReplayRow s calls answers m at)
-    → r.played ≡ Done (length (calls_of calls))
+    → r.played ≡ Ok (length (calls_of calls))
 all_played s calls answers answers' r w c e none =
     w.played ∙ ap (λ (o : Outcome). played_by o calls (length answers)) e ∙ go (eqb (bad_at 0 calls) (length calls)) (leb (2 * length (calls_of calls)) (length answers)) refl refl
   where
@@ -339,7 +334,7 @@ all_played s calls answers answers' r w c e none =
     turns whole fits p q = play_accepted s calls answers (Unit {0}) c e whole fits p q (λ n. tt)
 
     go : (whole fits : Bool) → eqb (bad_at 0 calls) (length calls) ≡ whole → leb (2 * length (calls_of calls)) (length answers) ≡ fits
-        → by_calls s calls answers (Unit {0}) c e whole fits ≡ Done (length (calls_of calls))
+        → by_calls s calls answers (Unit {0}) c e whole fits ≡ Ok (length (calls_of calls))
     go true true p q = refl
     go true false p q = absurd (none 25 0 ((turns true false p q).row (λ z. omega arith)))
     go false fits p q = absurd (none 24 (bad_at 0 calls) ((turns false fits p q).row (λ z. omega arith)))

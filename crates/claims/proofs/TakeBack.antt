@@ -1,4 +1,5 @@
 -- A run taken back: what the plain gate's rule for it comes to on a record, by the rules' being single-valued; and the example over row 2's runs.
+use Rattle.std.specs.Prelude.{Err, Ok}
 use Prim.Native.Nat.{ℕ, ◌<◌}
 use native.Mathlib.Omega.{arith}
 use mathlib.Core.Path.{◌≡◌, refl, ap, sym, ◌∙◌}
@@ -13,10 +14,9 @@ use Rattle.book.specs.Meaning.{conflict_of, unit_of}
 use Rattle.book.specs.declared.Cause.TheVariants.{Withdrawn}
 use Rattle.book.proofs.Books.{count_is}
 use Rattle.plain.specs.Plain.{step, take_back, place, taken_back, refused, State, In, insert, keep, take_run_back, newly_opened, was_withdrawn, PlainCall, step_refused, takes_back, PlainCalls, none, next}
-use Rattle.gate.specs.Gate.{answer_of, book_of, state_of, Sound, CalledAs}
+use Rattle.gate.specs.Gate.{Replied, answer_of, book_of, state_of, Sound, CalledAs}
 use Rattle.gate.specs.declared.Gate.{Gate}
-use Rattle.gate.specs.declared.Reply.{Reply}
-use Rattle.gate.specs.declared.Reply.TheVariants.{TakenBack, Refused}
+use Rattle.gate.specs.declared.Reply.TheVariants.{TakenBack}
 use Rattle.plain.proofs.PlainGate.{single, in_insert, count_insert_other}
 use Rattle.gate.proofs.Records.{flagged_in, flagged_out, sound_call}
 use Rattle.gate.proofs.Unchanged.{refused_unchanged}
@@ -31,18 +31,18 @@ use Rattle.claims.proofs.Lazy.{Serializable, row_2_serializable, row_5_serializa
 -- ---- one call
 
 -- the reply by its answer
-reply_is : (a b : Reply) → answer_of a ≡ answer_of b → a ≡ b
+reply_is : (a b : Replied) → answer_of a ≡ answer_of b → a ≡ b
 reply_is a b e = sym (reply_back a) ∙ ap reply_of e ∙ reply_back b
 
 other_run : (r q : ℕ) (w : List ℕ) → q ≢ r → In q (insert r w) ↔ In q w
 other_run r q w n = let e = count_insert_other r q w (λ p. n (sym p)) in (λ i. omega (arith, e), λ i. omega (arith, e))
 
-module _ (g h : Gate) (r : ℕ) (y : Sound g) (d : r < length (book_of g).runs) (n : ¬ In r (state_of g).taken_back) (a : Reply) (w : CalledAs g (take_back r) a h) where
+module _ (g h : Gate) (r : ℕ) (y : Sound g) (d : r < length (book_of g).runs) (n : ¬ In r (state_of g).taken_back) (a : Replied) (w : CalledAs g (take_back r) a h) where
   rule : PlainCall (book_of g) (state_of g) (take_back r) taken_back (take_run_back (state_of g) r)
   rule = takes_back (record { declared = d; not_taken_back = n })
 
-  answer : a ≡ TakenBack
-  answer = reply_is a TakenBack (single (book_of g) (state_of g) (sound_call y w).plain rule).answers
+  answer : a ≡ Ok TakenBack
+  answer = reply_is a (Ok TakenBack) (single (book_of g) (state_of g) (sound_call y w).plain rule).answers
 
   left : state_of h ≡ take_run_back (state_of g) r
   left = (single (book_of g) (state_of g) (sound_call y w).plain rule).states
@@ -80,9 +80,9 @@ module _ (g : Gate) (r : ℕ) (y : Sound g) (i : In r (state_of g).taken_back) w
   taken_back_withdrawn : In r (state_of g).withdrawn × (count (state_of g).kept r ≡ 0)
   taken_back_withdrawn = (flagged_in g.withdrawn r (y.taken_back_agree.withdrawn r flag), count_is g.book y.valid r ∙ y.taken_back_agree.none_kept r flag)
 
-  later_step : (h : Gate) (a : Reply) → r < length (book_of g).runs → CalledAs g (step r) a h → (a ≡ Refused Withdrawn) × (h ≡ g)
+  later_step : (h : Gate) (a : Replied) → r < length (book_of g).runs → CalledAs g (step r) a h → (a ≡ Err Withdrawn) × (h ≡ g)
   later_step h a d w =
-      let e = reply_is a (Refused Withdrawn) (single (book_of g) (state_of g) (sound_call y w).plain (step_refused (was_withdrawn d taken_back_withdrawn.0))).answers in
+      let e = reply_is a (Err Withdrawn) (single (book_of g) (state_of g) (sound_call y w).plain (step_refused (was_withdrawn d taken_back_withdrawn.0))).answers in
       (e, refused_unchanged g h (step r) Withdrawn (rw e at w))
 
 -- ---- the example

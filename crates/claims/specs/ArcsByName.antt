@@ -1,6 +1,6 @@
 -- Arcs by name (document 02, change 5), as statements about every answer that meets the calls' contracts. The cycle check and the judge give the answers that
 -- they gave: a cycle by the arc test's new answer is one as before, and their contracts fix every answer but which cycle the judge returns (Determined).
-use Rattle.std.specs.Prelude.{ℕ, suc, ◌-◌, ◌≤◌, ◌<◌, ◌≡◌, ◌⊎◌, ◌≢◌, ◌↔◌, List, [], ◌∷◌, ◌++◌, length, get_or, take}
+use Rattle.std.specs.Prelude.{Ok, ℕ, suc, ◌-◌, ◌≤◌, ◌<◌, ◌≡◌, ◌⊎◌, ◌≢◌, ◌↔◌, List, [], ◌∷◌, ◌++◌, length, get_or, take}
 use Rattle.buffer.specs.Each.{each}
 use Rattle.theory.specs.Graph.{ArcI, ArcD, ArcF, ArcB, Arc, Cycle}
 use Rattle.theory.specs.Rows.{Is}
@@ -9,14 +9,10 @@ use Rattle.book.specs.Numbers.{value_of}
 use Rattle.book.specs.Meaning.{conflict_of, unit_of}
 use Rattle.names.specs.Names.{names_of, names_value}
 use Rattle.names.specs.declared.ArcNames.{ArcNames}
-use Rattle.classes.specs.Tested.{tested_numbers, TestedAs}
-use Rattle.classes.specs.declared.Tested.{Tested}
-use Rattle.classes.specs.declared.Tested.TheVariants.{Yes}
-use Rattle.evidence.specs.Named.{named_numbers, NamedAs}
-use Rattle.evidence.specs.declared.Named.{Named}
-use Rattle.evidence.specs.declared.Named.TheVariants.{Arcs}
+use Rattle.classes.specs.Tested.{Yes, Tested, tested_numbers, TestedAs}
+use Rattle.evidence.specs.Named.{Named, named_numbers, NamedAs}
 use Rattle.judge.specs.Judge.{BytesJudged}
-use Rattle.judge.specs.declared.Judgement.{Judgement}
+use Rattle.judge.specs.Judged.{JudgeAnswer, verdict_of, count_of}
 use Rattle.judge.specs.declared.Verdict.TheVariants.{Tangled}
 use Rattle.report.specs.Text.{Findings, accepted_with, tangled, decimal}
 use Rattle.report.specs.Reporting.{Reports}
@@ -95,7 +91,7 @@ pub record ArcsUnder (c : Contents) (cycle text : List ℕ) : Type 0 where
 
 pub record ArcsByName : Type 0 where
   -- The arc test now answers with all of I, D, F and B that hold there,
-  pub all_named : (s : List ℕ) (c : Contents) → read s ≡ accepted c → (x y : ℕ) (r : Named) → NamedAs (arcs_from x y) s r → (w : ArcNames) × (r ≡ Arcs w) × AllThatHold c x y w
+  pub all_named : (s : List ℕ) (c : Contents) → read s ≡ accepted c → (x y : ℕ) (r : Named) → NamedAs (arcs_from x y) s r → (w : ArcNames) × (r ≡ Ok w) × AllThatHold c x y w
   -- for C by the sum of I 1, D 2, F 4 and B 8,
   pub deck_named : (s : List ℕ) (c : Contents) → read s ≡ accepted c → (x y : ℕ) (r : Answered) → NameCall (arcs_from x y) s r
       → (w : ArcNames) × (answered_numbers r ≡ value_of (names_value w)) × AllThatHold c x y w
@@ -117,8 +113,8 @@ pub record ArcsByName : Type 0 where
   pub checked_as_before : (s l : List ℕ) (r : Tested) → TestedAs (λ c. CycleByNames c l) s r ↔ TestedAs (CycleBefore l) s r
   pub deck_checked_as_before : (s l : List ℕ) (r : Answered) → TestCall (λ c. CycleByNames c l) s r ↔ TestCall (CycleBefore l) s r
   -- and the judge's cycle is one by it.
-  pub judged_by_names : (s : List ℕ) (c : Contents) → read s ≡ accepted c → (order order' cycle cycle' : List ℕ) (r : Judgement) → step_limit ≤ length order → step_limit ≤ length cycle
-      → BytesJudged order order' cycle cycle' s r → r.verdict ≡ Tangled → CycleByNames c (take r.count cycle')
+  pub judged_by_names : (s : List ℕ) (c : Contents) → read s ≡ accepted c → (order order' cycle cycle' : List ℕ) (r : JudgeAnswer) → step_limit ≤ length order → step_limit ≤ length cycle
+      → BytesJudged order order' cycle cycle' s r → verdict_of r ≡ Ok Tangled → CycleByNames c (take (count_of r) cycle')
   pub deck_judged_by_names : (s : List ℕ) (c : Contents) → read s ≡ accepted c → (order order' cycle cycle' : List ℕ) (r : Judged) → step_limit ≤ length order → step_limit ≤ length cycle
       → JudgeCall s order order' cycle cycle' r → judged_numbers r ≡ value_of 2 → CycleByNames c (take r.count cycle')
   -- Under the cycle the program adds a line "arcs" with, for each arc in turn, the one back to the first place last, a blank and the first of I, D, F, B

@@ -1,18 +1,15 @@
 -- The five classes of histories are nested (document 02, change 2, which calls this the ladder of classes, and the classes rings), as a statement about
 -- the answers of the calls: of the four class tests and the judge, of their entries for C in numbers, and of the program's text.
-use Rattle.std.specs.Prelude.{ℕ, ◌≤◌, ◌≡◌, true, List, length}
+use Rattle.std.specs.Prelude.{Ok, ℕ, ◌≤◌, ◌≡◌, true, List, length}
 use Rattle.theory.specs.Deck.{Cut}
 use Rattle.theory.specs.Rows.{HistoryRow, pairs, row_3, row_6, row_8}
 use Rattle.book.specs.Format.{Bytes, Contents, contents, with_cuts, accepted, step_limit, read}
 use Rattle.book.specs.Numbers.{value_of}
 use Rattle.book.specs.Meaning.{SerialHistory, RelativelyAtomicHistory, RelativelySerialHistory, ConflictSerializableHistory}
 use Rattle.book.specs.Render.{render}
-use Rattle.classes.specs.Tested.{tested_numbers, TestedAs}
-use Rattle.classes.specs.declared.Tested.{Tested}
-use Rattle.classes.specs.declared.Tested.TheVariants.{Yes, No}
-use Rattle.judge.specs.Judged.{verdict_numbers}
+use Rattle.classes.specs.Tested.{Yes, No, Tested, tested_numbers, TestedAs}
+use Rattle.judge.specs.Judged.{JudgeAnswer, verdict_of, verdict_numbers}
 use Rattle.judge.specs.Judge.{BytesJudged}
-use Rattle.judge.specs.declared.Judgement.{Judgement}
 use Rattle.judge.specs.declared.Verdict.TheVariants.{Passed}
 use Rattle.report.specs.Text.{Findings, accepted_with, Verdict as ReportVerdict, passed}
 use Rattle.report.specs.Reporting.{Reports}
@@ -55,10 +52,10 @@ pub record WithLongBuffers (P : List ℕ → List ℕ → List ℕ → List ℕ 
   pub cycle_long : step_limit ≤ length cycle
   pub promise : P order order' cycle cycle'
 
-abbrev pub JudgeAnswered : List ℕ → Judgement → Type 0
+abbrev pub JudgeAnswered : List ℕ → JudgeAnswer → Type 0
 JudgeAnswered s j = WithLongBuffers (λ order order' cycle cycle'. BytesJudged order order' cycle cycle' s j)
 
-pub record ClassesAnswered (s : List ℕ) (serial atomic relserial conflict : Tested) (j : Judgement) : Type 0 where
+pub record ClassesAnswered (s : List ℕ) (serial atomic relserial conflict : Tested) (j : JudgeAnswer) : Type 0 where
   pub serial_is : TestedAs SerialHistory s serial
   pub atomic_is : TestedAs RelativelyAtomicHistory s atomic
   pub relserial_is : TestedAs RelativelySerialHistory s relserial
@@ -88,8 +85,8 @@ abbrev pub TextSaysPassed : ReportVerdict → Type 0
 TextSaysPassed v = (order : List ℕ) × (v ≡ passed order)
 
 -- the classes are nested, as the four tests and the judge answer
-abbrev pub NestedCalls : Tested → Tested → Tested → Tested → Judgement → Type 0
-NestedCalls serial atomic relserial conflict j = Nested (serial ≡ Yes) (atomic ≡ Yes) (relserial ≡ Yes) (conflict ≡ Yes) (j.verdict ≡ Passed)
+abbrev pub NestedCalls : Tested → Tested → Tested → Tested → JudgeAnswer → Type 0
+NestedCalls serial atomic relserial conflict j = Nested (serial ≡ Yes) (atomic ≡ Yes) (relserial ≡ Yes) (conflict ≡ Yes) (verdict_of j ≡ Ok Passed)
 
 abbrev pub NestedDeckCalls : Answered → Answered → Answered → Answered → Judged → Type 0
 NestedDeckCalls serial atomic relserial conflict j = Nested (SaysYes serial) (SaysYes atomic) (SaysYes relserial) (SaysYes conflict) (SaysPassed j)
@@ -110,20 +107,20 @@ row_bytes t = render (row_contents t)
 pub record RowPassed (t : HistoryRow) (serial atomic relserial conflict : Tested) : Type 0 where
   pub bytes : Bytes (row_bytes t)
   pub book : read (row_bytes t) ≡ accepted (row_contents t)
-  pub answers : (serial' atomic' relserial' conflict' : Tested) (j : Judgement) → ClassesAnswered (row_bytes t) serial' atomic' relserial' conflict' j
-      → (serial' ≡ serial) × (atomic' ≡ atomic) × (relserial' ≡ relserial) × (conflict' ≡ conflict) × (j.verdict ≡ Passed)
+  pub answers : (serial' atomic' relserial' conflict' : Tested) (j : JudgeAnswer) → ClassesAnswered (row_bytes t) serial' atomic' relserial' conflict' j
+      → (serial' ≡ serial) × (atomic' ≡ atomic) × (relserial' ≡ relserial) × (conflict' ≡ conflict) × (verdict_of j ≡ Ok Passed)
   pub deck_answers : (serial' atomic' relserial' conflict' : Answered) (j : Judged) → DeckClassesAnswered (row_bytes t) serial' atomic' relserial' conflict' j
       → (answered_numbers serial' ≡ tested_numbers serial) × (answered_numbers atomic' ≡ tested_numbers atomic) × (answered_numbers relserial' ≡ tested_numbers relserial)
-      × (answered_numbers conflict' ≡ tested_numbers conflict) × (judged_numbers j ≡ verdict_numbers Passed)
+      × (answered_numbers conflict' ≡ tested_numbers conflict) × (judged_numbers j ≡ verdict_numbers (Ok Passed))
 
 -- ---- the statement
 
 -- s is any bytes: where they are refused as a book, so is every call
 pub record ClassesNested : Type 0 where
-  pub calls : (s : List ℕ) (serial atomic relserial conflict : Tested) (j : Judgement) → ClassesAnswered s serial atomic relserial conflict j
+  pub calls : (s : List ℕ) (serial atomic relserial conflict : Tested) (j : JudgeAnswer) → ClassesAnswered s serial atomic relserial conflict j
       → NestedCalls serial atomic relserial conflict j
-  pub calls_any_cuts : (s s' : List ℕ) → OtherCuts s s' → (conflict : Tested) (j : Judgement) → TestedAs ConflictSerializableHistory s conflict → JudgeAnswered s' j
-      → conflict ≡ Yes → j.verdict ≡ Passed
+  pub calls_any_cuts : (s s' : List ℕ) → OtherCuts s s' → (conflict : Tested) (j : JudgeAnswer) → TestedAs ConflictSerializableHistory s conflict → JudgeAnswered s' j
+      → conflict ≡ Yes → verdict_of j ≡ Ok Passed
   -- for C
   pub deck_calls : (s : List ℕ) (serial atomic relserial conflict : Answered) (j : Judged) → DeckClassesAnswered s serial atomic relserial conflict j
       → NestedDeckCalls serial atomic relserial conflict j

@@ -1,7 +1,7 @@
 -- The demands, sentence by sentence, as statements about every answer that meets the public calls' contracts. What the calls' own proofs say
 -- besides, for every input: they never trap, they end, and they touch no memory but the lent buffers and the lent record. Demand 3 is plain's `Demand3`
 -- (crates/plain/specs/Demand.antt), and the twelve rows are theory's `TwelveHistories` (crates/theory/specs/Rows.antt); both stand there once.
-use Rattle.std.specs.Prelude.{ℕ, ◌≤◌, ◌<◌, ◌≡◌, ◌≢◌, ◌↔◌, List, [], ◌∷◌, length, take, replicate}
+use Rattle.std.specs.Prelude.{Result, Ok, ℕ, ◌≤◌, ◌<◌, ◌≡◌, ◌≢◌, ◌↔◌, List, [], ◌∷◌, length, take, replicate}
 use Rattle.theory.specs.Relative.{ConflictSerializable, RelativelySerialOrder, RelativelySerializable}
 use Rattle.theory.specs.Graph.{Cycle}
 use Rattle.buffer.specs.Put.{Put}
@@ -9,31 +9,27 @@ use Rattle.book.specs.Format.{Bytes, Contents, nothing, accepted, run_limit, ste
 use Rattle.book.specs.Numbers.{Numbers, value_of, reading_numbers, answer_numbers}
 use Rattle.book.specs.TestOrder.{book_numbers}
 use Rattle.book.specs.Meaning.{conflict_of, unit_of}
-use Rattle.book.specs.Book.{empty_book, outcome_of, ReadAs}
-use Rattle.book.specs.declared.Reading.{Reading}
-use Rattle.writer.specs.Written.{written_numbers, Wrote}
-use Rattle.writer.specs.declared.Written.{Written}
-use Rattle.judge.specs.Judged.{verdict_numbers}
+use Rattle.book.specs.Book.{outcome_of, ReadAs}
+use Rattle.book.specs.declared.Book.{Book}
+use Rattle.book.specs.declared.Refusal.{Refusal}
+use Rattle.writer.specs.Written.{Written, written_numbers, Wrote}
+use Rattle.judge.specs.Judged.{JudgeAnswer, verdict_numbers, verdict_of, count_of}
 use Rattle.judge.specs.Judge.{BytesJudged}
-use Rattle.judge.specs.declared.Judgement.{Judgement}
 use Rattle.judge.specs.declared.Verdict.TheVariants.{Passed, Tangled}
-use Rattle.islands.specs.Islands.{no_islands, IslandsListed, no_steps, IslandHistory, IslandJudged}
+use Rattle.islands.specs.Islands.{IslandsListed, IslandHistory, IslandJudged}
 use Rattle.islands.specs.declared.IslandList.{IslandList}
 use Rattle.islands.specs.declared.IslandSteps.{IslandSteps}
-use Rattle.classes.specs.Tested.{tested_numbers, TestedAs}
-use Rattle.classes.specs.declared.Tested.{Tested}
+use Rattle.classes.specs.Tested.{Tested, tested_numbers, TestedAs}
 use Rattle.names.specs.declared.ArcNames.{ArcNames}
-use Rattle.evidence.specs.Named.{named_numbers, NamedAs}
-use Rattle.evidence.specs.declared.Named.{Named}
+use Rattle.evidence.specs.Named.{Named, named_numbers, NamedAs}
 use Rattle.plain.specs.Plain.{Call, step, withdraw, take_back, Answer as PlainAnswer, place, withdrawn, taken_back, refused, State, In, newly_opened}
-use Rattle.gate.specs.Gate.{reply_numbers, book_of, state_of, opening_numbers, opened_book, OpenedAs, CalledAs}
+use Rattle.gate.specs.Gate.{Replied, reply_numbers, book_of, state_of, opening_numbers, opened_book, OpenedAs, CalledAs}
 use Rattle.gate.specs.Chain.{Chain}
 use Rattle.plain.specs.Demand.{Demand3}
 use Rattle.replay.specs.Replay.{played_numbers, Unchanged, Replays}
 use Rattle.gate.specs.declared.Gate.{Gate}
 use Rattle.gate.specs.declared.Opened.{Opened}
 use Rattle.replay.specs.declared.Replayed.{Replayed}
-use Rattle.gate.specs.declared.Reply.{Reply}
 use Rattle.report.specs.Text.{Findings, refused_at, accepted_with, text_of}
 use Rattle.report.specs.Reporting.{Reports}
 use Rattle.capi.specs.Numbers.{answered}
@@ -47,8 +43,8 @@ use Rattle.table.specs.BookTable.{BookRow, NoRow}
 use Rattle.claims.specs.Table.{JudgeRow, WriterRow, IslandRow, IslandJudgeRow, GateRow, ReplayRow}
 
 -- Demand 1, of a call that answers the numbers n, where the rows R of the documents' table (table BookTable, Table) are its refusals, and LeftAsIs says that
--- every lent byte and the record are as at entry; of a book or a gate that a call hands back, that it is the one without runs, of a list, that
--- every number is 0, and of a replay's gate, that it is as opened.
+-- every lent byte and the record are as at entry; of a book, or of a list that a call in Rattle hands back, that there is none, of a gate, that it is the one
+-- without runs, of a list for C, that every number is 0, and of a replay's gate, that it is as opened.
 pub record TurnsAway (R : ℕ → ℕ → Type 0) (n : Numbers) (LeftAsIs : Type 0) : Type 0 where
   -- Each refusal has the number and place in document 01, with document 02's changes so far,
   pub row : n.number ≢ 0 → R n.number n.place
@@ -109,10 +105,10 @@ pub record Demand1 : Type 1 where
   -- the numbers of a book's refusals: document 01's "1 to 11" and each later check of the reader, and no others
   pub book_refusals : (s : List ℕ) (n place : ℕ) → BookRow s n place → In n book_numbers
   pub each_refusal : (n : ℕ) → In n book_numbers → SomeBook n
-  pub read_bytes : (s : List ℕ) (r : Reading) → ReadAs (read s) r → TurnsAway (BookRow s) (reading_numbers (outcome_of r)) (r.book ≡ empty_book)
+  pub read_bytes : (s : List ℕ) (r : Result Book Refusal) → ReadAs (read s) r → TurnsAway (BookRow s) (reading_numbers (outcome_of r)) ((b : Book) → r ≢ Ok b)
   pub deck_read : (s : List ℕ) (r : Answered) → ReadCall s r → TurnsAway (BookRow s) (answered_numbers r) (Unit {0})
-  pub judge_bytes : (s order order' cycle cycle' : List ℕ) (r : Judgement) → BytesJudged order order' cycle cycle' s r
-      → TurnsAway (JudgeRow s order cycle) (verdict_numbers r.verdict) (BuffersUnchanged order order' cycle cycle' r.count)
+  pub judge_bytes : (s order order' cycle cycle' : List ℕ) (r : JudgeAnswer) → BytesJudged order order' cycle cycle' s r
+      → TurnsAway (JudgeRow s order cycle) (verdict_numbers (verdict_of r)) (BuffersUnchanged order order' cycle cycle' (count_of r))
   pub deck_judge : (s order order' cycle cycle' : List ℕ) (r : Judged) → JudgeCall s order order' cycle cycle' r
       → TurnsAway (JudgeRow s order cycle) (judged_numbers r) (BuffersUnchanged order order' cycle cycle' r.count)
   -- the four class tests, the order check and the cycle check; P is what they ask of the contents
@@ -126,7 +122,7 @@ pub record Demand1 : Type 1 where
   pub open_gate : (s : List ℕ) (o : Opened) → OpenedAs (read s) o → TurnsAway (BookRow s) (opening_numbers o.answer) (WithoutRuns o.gate)
   pub deck_open : (s : List ℕ) (r : OpenedGate) → OpenCall s r → TurnsAway (BookRow s) (opened_numbers r) (WithoutRuns r.gate)
   -- step, withdraw and take back, on any record
-  pub call_gate : (g h : Gate) (x : Call) (a : Reply) → CalledAs g x a h → TurnsAway (GateRow g x) (reply_numbers a) (h ≡ g)
+  pub call_gate : (g h : Gate) (x : Call) (a : Replied) → CalledAs g x a h → TurnsAway (GateRow g x) (reply_numbers a) (h ≡ g)
   pub deck_call : (g h : Gate) (x : Call) (r : Answered) → GateCall x g h r → TurnsAway (GateRow g x) (answered_numbers r) (h ≡ g)
   pub replay_calls : (s calls answers answers' : List ℕ) (r : Replayed) → Replays s calls answers answers' r
       → TurnsAway (ReplayRow s calls answers) (played_numbers r.played) (AnswersUnchanged s answers answers' r.gate)
@@ -138,12 +134,12 @@ pub record Demand1 : Type 1 where
 
 -- the same of the calls on islands: the islands, an island's history, and an island judged
 pub record Demand1OfIslands : Type 0 where
-  pub list_islands : (s : List ℕ) (r : IslandList) → IslandsListed s r → TurnsAway (BookRow s) (answer_numbers r.answer) (r ≡ no_islands r.answer)
+  pub list_islands : (s : List ℕ) (r : Result IslandList Refusal) → IslandsListed s r → TurnsAway (BookRow s) (answer_numbers r) ((x : IslandList) → r ≢ Ok x)
   pub deck_islands : (s : List ℕ) (r : ListedIslands) → IslandsCall s r → TurnsAway (BookRow s) (island_numbers r) (WithoutIslands r)
-  pub island_history : (s : List ℕ) (m : ℕ) (r : IslandSteps) → IslandHistory s m r → TurnsAway (IslandRow s m) (answer_numbers r.answer) (r ≡ no_steps r.answer)
+  pub island_history : (s : List ℕ) (m : ℕ) (r : Result IslandSteps Refusal) → IslandHistory s m r → TurnsAway (IslandRow s m) (answer_numbers r) ((x : IslandSteps) → r ≢ Ok x)
   pub deck_island_history : (s : List ℕ) (m : ℕ) (r : ListedSteps) → IslandHistoryCall s m r → TurnsAway (IslandRow s m) (step_numbers r) (WithoutSteps r)
-  pub judge_island : (s : List ℕ) (m : ℕ) (order order' cycle cycle' : List ℕ) (r : Judgement) → IslandJudged order order' cycle cycle' s m r
-      → TurnsAway (IslandJudgeRow s m order cycle) (verdict_numbers r.verdict) (BuffersUnchanged order order' cycle cycle' r.count)
+  pub judge_island : (s : List ℕ) (m : ℕ) (order order' cycle cycle' : List ℕ) (r : JudgeAnswer) → IslandJudged order order' cycle cycle' s m r
+      → TurnsAway (IslandJudgeRow s m order cycle) (verdict_numbers (verdict_of r)) (BuffersUnchanged order order' cycle cycle' (count_of r))
   pub deck_judge_island : (s : List ℕ) (m : ℕ) (order order' cycle cycle' : List ℕ) (r : Judged) → IslandJudgeCall s m order order' cycle cycle' r
       → TurnsAway (IslandJudgeRow s m order cycle) (judged_numbers r) (BuffersUnchanged order order' cycle cycle' r.count)
 
@@ -163,9 +159,9 @@ pub record Demand2By {A : Type 0} (passed tangled : A) (c : Contents) (order' cy
   -- Without cuts, it passes exactly the conflict serializable histories.
   pub uncut_exactly : c.cuts ≡ [] → (verdict ≡ passed) ↔ ConflictSerializable (conflict_of c) c.history
 
--- of a judgement
-abbrev pub Demand2 : Contents → List ℕ → List ℕ → Judgement → Type 0
-Demand2 c order' cycle' r = Demand2By Passed Tangled c order' cycle' r.verdict r.count
+-- of an answer of the judge
+abbrev pub Demand2 : Contents → List ℕ → List ℕ → JudgeAnswer → Type 0
+Demand2 c order' cycle' r = Demand2By (Ok Passed) (Ok Tangled) c order' cycle' (verdict_of r) (count_of r)
 
 -- of the numbers that the judge for C answers: the verdict is 1 for passed, 2 for tangled
 abbrev pub DeckDemand2 : Contents → List ℕ → List ℕ → Judged → Type 0
@@ -173,7 +169,7 @@ DeckDemand2 c order' cycle' r = Demand2By (value_of 1) (value_of 2) c order' cyc
 
 -- Demand 2 for every accepted book, buffers as long as the judge asks, and every judgement that meets the judge's contract.
 abbrev pub EveryJudgement : Type 0
-EveryJudgement = (s : List ℕ) (c : Contents) → read s ≡ accepted c → (order order' cycle cycle' : List ℕ) (r : Judgement) → step_limit ≤ length order → step_limit ≤ length cycle
+EveryJudgement = (s : List ℕ) (c : Contents) → read s ≡ accepted c → (order order' cycle cycle' : List ℕ) (r : JudgeAnswer) → step_limit ≤ length order → step_limit ≤ length cycle
     → BytesJudged order order' cycle cycle' s r → Demand2 c order' cycle' r
 
 -- the same of the judge for C

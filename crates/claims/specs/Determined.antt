@@ -2,7 +2,7 @@
 -- same input are equal, answer, lent bytes and record. Only the judge's choice of a cycle is open, in its buffer and in a report. The judge's second call,
 -- `front`, is not here: its contract is two equations, of the part's bytes and of where it begins. `dependence::read_step` is here from blank tables on, by the
 -- bits of its tables; what it makes of tables that no pass over a history has made is left out.
-use Rattle.std.specs.Prelude.{ℕ, ◌<◌, ◌≡◌, ◌≢◌, List, [], drop}
+use Rattle.std.specs.Prelude.{Ok, ℕ, ◌<◌, ◌≡◌, ◌≢◌, List, [], drop}
 use Rattle.bits.specs.Table.{row_bits, rows, bit_at}
 use Rattle.theory.specs.Deck.{Step}
 use Rattle.book.specs.Format.{Contents, Outcome, accepted}
@@ -10,9 +10,8 @@ use Rattle.book.specs.Meaning.{RelativelySerializableHistory}
 use Rattle.book.specs.Book.{ReadAs}
 use Rattle.dependence.specs.Marks.{Marks}
 use Rattle.dependence.specs.Dependence.{Blank}
-use Rattle.judge.specs.Judged.{verdict_numbers}
+use Rattle.judge.specs.Judged.{JudgeAnswer, verdict_numbers, verdict_of, count_of}
 use Rattle.judge.specs.Judge.{BytesJudged}
-use Rattle.judge.specs.declared.Judgement.{Judgement}
 use Rattle.judge.specs.declared.Verdict.TheVariants.{Tangled}
 use Rattle.islands.specs.Islands.{IslandsListed, IslandHistory, IslandJudged}
 use Rattle.classes.specs.Tested.{TestedAs}
@@ -87,11 +86,11 @@ pub record Determined : Type 1 where
   -- the answer and the book
   pub reading : (o : Outcome) → AtMostOne (ReadAs o)
   -- order and cycle are the buffers before both calls, order' and cycle' after the one, order'' and cycle'' after the other
-  pub judging : (s order order' order'' cycle cycle' cycle'' : List ℕ) (r r' : Judgement)
+  pub judging : (s order order' order'' cycle cycle' cycle'' : List ℕ) (r r' : JudgeAnswer)
       → BytesJudged order order' cycle cycle' s r → BytesJudged order order'' cycle cycle'' s r'
-      → EqualButCycle Tangled r.verdict r'.verdict r.count r'.count order' order'' cycle' cycle''
+      → EqualButCycle (Ok Tangled) (verdict_of r) (verdict_of r') (count_of r) (count_of r') order' order'' cycle' cycle''
   -- what lies behind the cycle is as before
-  pub judging_rest : (s order order' cycle cycle' : List ℕ) (r : Judgement) → BytesJudged order order' cycle cycle' s r → drop r.count cycle' ≡ drop r.count cycle
+  pub judging_rest : (s order order' cycle cycle' : List ℕ) (r : JudgeAnswer) → BytesJudged order order' cycle cycle' s r → drop (count_of r) cycle' ≡ drop (count_of r) cycle
   -- the four class tests, the order check and the cycle check
   pub testing : (P : Contents → Type 0) (s : List ℕ) → AtMostOne (TestedAs P s)
   -- the arc test; N names the arcs of the contents
@@ -121,7 +120,7 @@ pub record Determined : Type 1 where
   pub c_reading : (s : List ℕ) → AtMostOne (ReadCall s)
   pub c_judging : (s order order' order'' cycle cycle' cycle'' : List ℕ) (r r' : Judged)
       → JudgeCall s order order' cycle cycle' r → JudgeCall s order order'' cycle cycle'' r'
-      → EqualButCycle (verdict_numbers Tangled) (judged_numbers r) (judged_numbers r') r.count r'.count order' order'' cycle' cycle''
+      → EqualButCycle (verdict_numbers (Ok Tangled)) (judged_numbers r) (judged_numbers r') r.count r'.count order' order'' cycle' cycle''
   pub c_judging_rest : (s order order' cycle cycle' : List ℕ) (r : Judged) → JudgeCall s order order' cycle cycle' r → drop r.count cycle' ≡ drop r.count cycle
   pub c_testing : (P : Contents → Type 0) (s : List ℕ) → AtMostOne (TestCall P s)
   pub c_naming : (N : Contents → ArcNames) (s : List ℕ) → AtMostOne (NameCall N s)
@@ -135,16 +134,16 @@ pub record IslandsDetermined : Type 0 where
   -- the islands; the history of the island whose smallest run is m; that island judged, as the judge of the book
   pub listing : (s : List ℕ) → AtMostOne (IslandsListed s)
   pub dividing : (s : List ℕ) (m : ℕ) → AtMostOne (IslandHistory s m)
-  pub judging_island : (s : List ℕ) (m : ℕ) (order order' order'' cycle cycle' cycle'' : List ℕ) (r r' : Judgement)
+  pub judging_island : (s : List ℕ) (m : ℕ) (order order' order'' cycle cycle' cycle'' : List ℕ) (r r' : JudgeAnswer)
       → IslandJudged order order' cycle cycle' s m r → IslandJudged order order'' cycle cycle'' s m r'
-      → EqualButCycle Tangled r.verdict r'.verdict r.count r'.count order' order'' cycle' cycle''
-  pub judging_island_rest : (s : List ℕ) (m : ℕ) (order order' cycle cycle' : List ℕ) (r : Judgement) → IslandJudged order order' cycle cycle' s m r
-      → drop r.count cycle' ≡ drop r.count cycle
+      → EqualButCycle (Ok Tangled) (verdict_of r) (verdict_of r') (count_of r) (count_of r') order' order'' cycle' cycle''
+  pub judging_island_rest : (s : List ℕ) (m : ℕ) (order order' cycle cycle' : List ℕ) (r : JudgeAnswer) → IslandJudged order order' cycle cycle' s m r
+      → drop (count_of r) cycle' ≡ drop (count_of r) cycle
   -- the same of the calls for C
   pub c_listing : (s : List ℕ) → AtMostOne (IslandsCall s)
   pub c_dividing : (s : List ℕ) (m : ℕ) → AtMostOne (IslandHistoryCall s m)
   pub c_judging_island : (s : List ℕ) (m : ℕ) (order order' order'' cycle cycle' cycle'' : List ℕ) (r r' : Judged)
       → IslandJudgeCall s m order order' cycle cycle' r → IslandJudgeCall s m order order'' cycle cycle'' r'
-      → EqualButCycle (verdict_numbers Tangled) (judged_numbers r) (judged_numbers r') r.count r'.count order' order'' cycle' cycle''
+      → EqualButCycle (verdict_numbers (Ok Tangled)) (judged_numbers r) (judged_numbers r') r.count r'.count order' order'' cycle' cycle''
   pub c_judging_island_rest : (s : List ℕ) (m : ℕ) (order order' cycle cycle' : List ℕ) (r : Judged) → IslandJudgeCall s m order order' cycle cycle' r
       → drop r.count cycle' ≡ drop r.count cycle

@@ -1,5 +1,5 @@
 -- The islands of a book (document 02, change 8), of every answer that meets the calls' contracts, in Rattle and for C. Their refusals are demand 1's (Table).
-use Rattle.std.specs.Prelude.{ℕ, ◌≤◌, ◌<◌, ◌≡◌, ◌↔◌, List, length, get_or, take}
+use Rattle.std.specs.Prelude.{Result, Ok, ℕ, ◌≤◌, ◌<◌, ◌≡◌, ◌↔◌, List, length, get_or, take}
 use Rattle.theory.specs.History.{count}
 use Rattle.theory.specs.Components.{Joined, Connected}
 use Rattle.theory.specs.Relative.{RelativelySerialOrder}
@@ -7,13 +7,11 @@ use Rattle.theory.specs.Graph.{Cycle}
 use Rattle.book.specs.Format.{Bytes, Contents, accepted, read, with_history}
 use Rattle.book.specs.Meaning.{conflict_of, unit_of}
 use Rattle.book.specs.Render.{render}
-use Rattle.book.specs.declared.Answer.TheVariants.{Accepted}
+use Rattle.book.specs.declared.Refusal.{Refusal}
+use Rattle.judge.specs.Judged.{JudgeAnswer, verdict_of, count_of}
 use Rattle.judge.specs.Judge.{BytesJudged}
-use Rattle.judge.specs.declared.Judgement.{Judgement}
 use Rattle.judge.specs.declared.Verdict.TheVariants.{Passed, Tangled}
-use Rattle.classes.specs.Tested.{TestedAs}
-use Rattle.classes.specs.declared.Tested.{Tested}
-use Rattle.classes.specs.declared.Tested.TheVariants.{Yes}
+use Rattle.classes.specs.Tested.{Yes, Tested, TestedAs}
 use Rattle.islands.specs.Islands.{IslandsListed, IslandHistory, IslandJudged}
 use Rattle.islands.specs.declared.IslandList.{IslandList}
 use Rattle.islands.specs.declared.IslandSteps.{IslandSteps}
@@ -50,13 +48,13 @@ pub record AsItsBook (s : List ℕ) (c : Contents) (m : ℕ) (h : List ℕ) : Ty
   pub bytes : Bytes (render (with_history c h))
   pub reads : read (render (with_history c h)) ≡ accepted (with_history c h)
   -- 02: judges each as the book with that history: a judgement of the island is one of that book, in every byte
-  pub judged_as : (order order' cycle cycle' : List ℕ) (r : Judgement) → IslandJudged order order' cycle cycle' s m r → BytesJudged order order' cycle cycle' (render (with_history c h)) r
+  pub judged_as : (order order' cycle cycle' : List ℕ) (r : JudgeAnswer) → IslandJudged order order' cycle cycle' s m r → BytesJudged order order' cycle cycle' (render (with_history c h)) r
   pub deck_judged_as : (order order' cycle cycle' : List ℕ) (r : Judged) → IslandJudgeCall s m order order' cycle cycle' r → JudgeCall (render (with_history c h)) order order' cycle cycle' r
   -- its order and its cycle are evidence: the order check and the cycle check of that book say yes
-  pub order_checked : (order order' cycle cycle' : List ℕ) (r : Judgement) → IslandJudged order order' cycle cycle' s m r → r.verdict ≡ Passed
-      → (t : Tested) → TestedAs (λ d. RelativelySerialOrder (conflict_of d) (unit_of d) d.history (take r.count order')) (render (with_history c h)) t → t ≡ Yes
-  pub cycle_checked : (order order' cycle cycle' : List ℕ) (r : Judgement) → IslandJudged order order' cycle cycle' s m r → r.verdict ≡ Tangled
-      → (t : Tested) → TestedAs (λ d. Cycle (conflict_of d) (unit_of d) d.history (take r.count cycle')) (render (with_history c h)) t → t ≡ Yes
+  pub order_checked : (order order' cycle cycle' : List ℕ) (r : JudgeAnswer) → IslandJudged order order' cycle cycle' s m r → verdict_of r ≡ Ok Passed
+      → (t : Tested) → TestedAs (λ d. RelativelySerialOrder (conflict_of d) (unit_of d) d.history (take (count_of r) order')) (render (with_history c h)) t → t ≡ Yes
+  pub cycle_checked : (order order' cycle cycle' : List ℕ) (r : JudgeAnswer) → IslandJudged order order' cycle cycle' s m r → verdict_of r ≡ Ok Tangled
+      → (t : Tested) → TestedAs (λ d. Cycle (conflict_of d) (unit_of d) d.history (take (count_of r) cycle')) (render (with_history c h)) t → t ≡ Yes
 
 -- each run's done steps are in its island's history, and in no other's
 pub record StepsOnce (c : Contents) (m : ℕ) (h : List ℕ) (smallest : List ℕ) : Type 0 where
@@ -66,7 +64,7 @@ pub record StepsOnce (c : Contents) (m : ℕ) (h : List ℕ) (smallest : List �
 -- ---- the whole and its islands
 
 -- what a judgement of the island whose smallest run is m answers, with buffers as long as the judge asks; the same for C
-abbrev pub IslandAnswered : List ℕ → ℕ → Judgement → Type 0
+abbrev pub IslandAnswered : List ℕ → ℕ → JudgeAnswer → Type 0
 IslandAnswered s m j = WithLongBuffers (λ order order' cycle cycle'. IslandJudged order order' cycle cycle' s m j)
 
 abbrev pub DeckIslandAnswered : List ℕ → ℕ → Judged → Type 0
@@ -75,18 +73,19 @@ DeckIslandAnswered s m r = WithLongBuffers (λ order order' cycle cycle'. Island
 -- ---- the claims
 
 pub record IslandClaims : Type 0 where
-  pub partition : (s : List ℕ) (c : Contents) → read s ≡ accepted c → (r : IslandList) → IslandsListed s r → Partition c r.runs r.smallest r.count r.list
+  pub partition : (s : List ℕ) (c : Contents) → read s ≡ accepted c → (r : Result IslandList Refusal) → IslandsListed s r
+      → (x : IslandList) × (r ≡ Ok x) × Partition c x.runs x.smallest x.count x.list
   pub deck_partition : (s : List ℕ) (c : Contents) → read s ≡ accepted c → (r : ListedIslands) → IslandsCall s r → Partition c r.runs r.smallest r.count r.list
   -- of each island that the list has, the history is told, and it is judged as the book with that history
-  pub histories : (s : List ℕ) (c : Contents) → read s ≡ accepted c → (r : IslandList) → IslandsListed s r → (i : ℕ) → i < r.count
-      → (x : IslandSteps) → IslandHistory s (get_or r.list i 0) x → (x.answer ≡ Accepted) × StepsOnce c (get_or r.list i 0) (take x.count x.history) r.smallest
-  pub books : (s : List ℕ) (c : Contents) → Bytes s → read s ≡ accepted c → (m : ℕ) (x : IslandSteps) → IslandHistory s m x → x.answer ≡ Accepted → AsItsBook s c m (take x.count x.history)
+  pub histories : (s : List ℕ) (c : Contents) → read s ≡ accepted c → (r : IslandList) → IslandsListed s (Ok r) → (i : ℕ) → i < r.count
+      → (x : Result IslandSteps Refusal) → IslandHistory s (get_or r.list i 0) x → (y : IslandSteps) × (x ≡ Ok y) × StepsOnce c (get_or r.list i 0) (take y.count y.history) r.smallest
+  pub books : (s : List ℕ) (c : Contents) → Bytes s → read s ≡ accepted c → (m : ℕ) (x : IslandSteps) → IslandHistory s m (Ok x) → AsItsBook s c m (take x.count x.history)
   pub deck_books : (s : List ℕ) (c : Contents) → Bytes s → read s ≡ accepted c → (m : ℕ) (x : ListedSteps) → IslandHistoryCall s m x → x.number ≡ 0
       → AsItsBook s c m (take x.count x.history)
   -- 02: The whole history is passed exactly when every island's is.
-  pub whole : (s : List ℕ) (c : Contents) → Bytes s → read s ≡ accepted c → (r : IslandList) → IslandsListed s r → (w : Judgement) → JudgeAnswered s w
-      → (parts : ℕ → Judgement) → ((i : ℕ) → i < r.count → IslandAnswered s (get_or r.list i 0) (parts i))
-      → (w.verdict ≡ Passed) ↔ ((i : ℕ) → i < r.count → (parts i).verdict ≡ Passed)
+  pub whole : (s : List ℕ) (c : Contents) → Bytes s → read s ≡ accepted c → (r : IslandList) → IslandsListed s (Ok r) → (w : JudgeAnswer) → JudgeAnswered s w
+      → (parts : ℕ → JudgeAnswer) → ((i : ℕ) → i < r.count → IslandAnswered s (get_or r.list i 0) (parts i))
+      → (verdict_of w ≡ Ok Passed) ↔ ((i : ℕ) → i < r.count → verdict_of (parts i) ≡ Ok Passed)
   pub deck_whole : (s : List ℕ) (c : Contents) → Bytes s → read s ≡ accepted c → (r : ListedIslands) → IslandsCall s r → (w : Judged) → DeckJudgeAnswered s w
       → (parts : ℕ → Judged) → ((i : ℕ) → i < r.count → DeckIslandAnswered s (get_or r.list i 0) (parts i))
       → SaysPassed w ↔ ((i : ℕ) → i < r.count → SaysPassed (parts i))

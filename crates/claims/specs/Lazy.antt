@@ -1,12 +1,12 @@
 -- The demands exclude each lazy program that document 01 lists ("Which lazy programs are caught?"; the term is document 01's): for each, answers that it
 -- gives over books of document 01's rows, and one more, and that do not meet demand 2 or demand 3.
-use Rattle.std.specs.Prelude.{ℕ, ◌<◌, ◌≡◌, ◌≢◌, ◌⊎◌, List, [], ◌∷◌, ◌++◌, replicate}
+use Rattle.std.specs.Prelude.{Ok, ℕ, ◌<◌, ◌≡◌, ◌≢◌, ◌⊎◌, List, [], ◌∷◌, ◌++◌, replicate}
 use Rattle.theory.specs.Relative.{RelativelySerializable}
 use Rattle.theory.specs.Rows.{w, pairs, runs_2, runs_11, cuts_6}
 use Rattle.book.specs.Format.{Bytes, Contents, contents, accepted, step_limit, Allowed, read}
 use Rattle.book.specs.Meaning.{conflict_of, unit_of}
 use Rattle.book.specs.Render.{render}
-use Rattle.judge.specs.declared.Judgement.{Judgement}
+use Rattle.judge.specs.Judged.{JudgeAnswer}
 use Rattle.judge.specs.declared.Verdict.TheVariants.{Passed, Tangled}
 use Rattle.plain.specs.Plain.{step, withdraw, place, withdrawn, refused, State}
 use Rattle.plain.specs.Demand.{Demand3}
@@ -33,11 +33,11 @@ abbrev pub Accepted : Contents → Type 0
 Accepted c = Bytes (render c) × (read (render c) ≡ accepted c)
 
 -- the judge's answers, with their counts
-abbrev pub judged_passed : ℕ → Judgement
-judged_passed k = record { verdict = Passed; count = k }
+abbrev pub judged_passed : ℕ → JudgeAnswer
+judged_passed k = Ok (record { verdict = Passed; count = k })
 
-abbrev pub judged_tangled : ℕ → Judgement
-judged_tangled k = record { verdict = Tangled; count = k }
+abbrev pub judged_tangled : ℕ → JudgeAnswer
+judged_tangled k = Ok (record { verdict = Tangled; count = k })
 
 -- a buffer of zeros, as it was lent
 abbrev pub unwritten : List ℕ

@@ -3,7 +3,7 @@
 -- on a gate and a pass over a history give is right by it. Where no step is a transfer, it is the conflict from before transfers; where moreover none homes,
 -- that from before homing. Of reading: a book without a 54 is read as before. The other calls (reader, writer, opening, the tests of serial and relatively
 -- atomic, the judge's second call) and all refusals but 23 do not speak of conflict.
-use Rattle.std.specs.Prelude.{ℕ, ◌*◌, ◌≤◌, ◌≡◌, ◌↔◌, Bool, List, [], ◌++◌, length, drop}
+use Rattle.std.specs.Prelude.{Ok, ℕ, ◌*◌, ◌≤◌, ◌≡◌, ◌↔◌, Bool, List, [], ◌++◌, length, drop}
 use Rattle.theory.specs.Deck.{Pair, Step}
 use Rattle.theory.specs.Transfers.{before_transfers, WithoutTransfers}
 use Rattle.theory.specs.Homing.{before_homing, WithoutHoming}
@@ -15,23 +15,18 @@ use Rattle.book.specs.Meaning.{conflict_of, unit_of}
 use Rattle.book.specs.Book.{pairs_of}
 use Rattle.dependence.specs.Marks.{Marks}
 use Rattle.dependence.specs.Dependence.{Blank}
-use Rattle.judge.specs.Judged.{verdict_numbers, JudgedAs}
+use Rattle.judge.specs.Judged.{JudgeAnswer, verdict_numbers, verdict_of, count_of, JudgementAs}
 use Rattle.judge.specs.Judge.{BytesJudged}
-use Rattle.judge.specs.declared.Judgement.{Judgement}
-use Rattle.classes.specs.Tested.{TestedAs}
-use Rattle.classes.specs.declared.Tested.{Tested}
+use Rattle.classes.specs.Tested.{Tested, TestedAs}
 use Rattle.names.specs.declared.ArcNames.{ArcNames}
-use Rattle.evidence.specs.Named.{NamedAs}
-use Rattle.evidence.specs.declared.Named.{Named}
+use Rattle.evidence.specs.Named.{Named, NamedAs}
 use Rattle.plain.specs.Plain.{Call, Answer, State, newly_opened, PlainCall, PlainCallBy, PlainCalls, PlainCallsBy}
-use Rattle.gate.specs.Gate.{answer_of, reply_numbers, book_of, state_of, Sound, OpenedAs, CalledAs}
+use Rattle.gate.specs.Gate.{Replied, answer_of, reply_numbers, book_of, state_of, Sound, OpenedAs, CalledAs}
 use Rattle.gate.specs.Chain.{Chain}
 use Rattle.replay.specs.Replay.{calls_of, answers_bytes, played_by, Replays}
 use Rattle.gate.specs.declared.Gate.{Gate}
 use Rattle.gate.specs.declared.Opened.{Opened}
-use Rattle.replay.specs.declared.Played.TheVariants.{Done}
 use Rattle.replay.specs.declared.Replayed.{Replayed}
-use Rattle.gate.specs.declared.Reply.{Reply}
 use Rattle.report.specs.Text.{Findings, accepted_with, text_of}
 use Rattle.report.specs.Reporting.{FindingsBy, Reports}
 use Rattle.capi.specs.Numbers.{answered, judged}
@@ -47,11 +42,11 @@ module _ (earlier : List Pair → List (List Step) → ℕ → ℕ → ℕ → �
 
   -- ---- the calls on a book's bytes
 
-  -- the judge for C: the numbers of a judgement that is right by the earlier conflict
+  -- the judge for C: the numbers of an answer that is right by the earlier conflict
   pub record DeckJudgedBefore (c : Contents) (order order' cycle cycle' : List ℕ) (r : Judged) : Type 0 where
-    pub judgement : Judgement
-    pub promise : JudgedAs (earlier_of c) (unit_of c) c.history order order' cycle cycle' judgement.verdict judgement.count
-    pub numbers : r ≡ judged (verdict_numbers judgement.verdict) judgement.count
+    pub judgement : JudgeAnswer
+    pub promise : JudgementAs (earlier_of c) (unit_of c) c.history order order' cycle cycle' judgement
+    pub numbers : r ≡ judged (verdict_numbers (verdict_of judgement)) (count_of judgement)
 
   -- the buffer has the text of findings that are right by the earlier conflict
   pub record ReportedBefore (c : Contents) (text text' : List ℕ) (n : ℕ) : Type 0 where
@@ -69,8 +64,8 @@ module _ (earlier : List Pair → List (List Step) → ℕ → ℕ → ℕ → �
   -- of the bytes s of a book with contents c
   pub record BookAsBefore (s : List ℕ) (c : Contents) : Type 1 where
     -- the judge, with buffers as long as it asks
-    pub judging : (order order' cycle cycle' : List ℕ) (r : Judgement) → step_limit ≤ length order → step_limit ≤ length cycle
-        → BytesJudged order order' cycle cycle' s r ↔ JudgedAs (earlier_of c) (unit_of c) c.history order order' cycle cycle' r.verdict r.count
+    pub judging : (order order' cycle cycle' : List ℕ) (r : JudgeAnswer) → step_limit ≤ length order → step_limit ≤ length cycle
+        → BytesJudged order order' cycle cycle' s r ↔ JudgementAs (earlier_of c) (unit_of c) c.history order order' cycle cycle' r
     pub deck_judging : (order order' cycle cycle' : List ℕ) (r : Judged) → step_limit ≤ length order → step_limit ≤ length cycle
         → JudgeCall s order order' cycle cycle' r ↔ DeckJudgedBefore c order order' cycle cycle' r
     -- the tests: P is what one asks of a book b by a conflict k. Relatively serial: RelativelySerial k (unit_of b) b.history; conflict serializable:
@@ -89,28 +84,28 @@ module _ (earlier : List Pair → List (List Step) → ℕ → ℕ → ℕ → �
     pub calling_in_turn : (o : Opened) → OpenedAs (read s) o → (calls : List Call) (answers : List Answer) (g : Gate) → Chain o.gate calls answers g
         → PlainCallsBy (earlier_of c) c newly_opened calls answers (state_of g)
     -- a replay of calls that are all made
-    pub replaying : (calls answers answers' : List ℕ) (r : Replayed) (n : ℕ) → Replays s calls answers answers' r → played_by (read s) calls (length answers) ≡ Done n
+    pub replaying : (calls answers answers' : List ℕ) (r : Replayed) (n : ℕ) → Replays s calls answers answers' r → played_by (read s) calls (length answers) ≡ Ok n
         → ReplayedBefore c calls answers answers' (state_of r.gate)
-    pub deck_replaying : (calls answers answers' : List ℕ) (r : Answered) (n : ℕ) → ReplayCall s calls answers answers' r → played_by (read s) calls (length answers) ≡ Done n
+    pub deck_replaying : (calls answers answers' : List ℕ) (r : Answered) (n : ℕ) → ReplayCall s calls answers answers' r → played_by (read s) calls (length answers) ≡ Ok n
         → (h : State) × ReplayedBefore c calls answers answers' h
 
   -- ---- the calls on a gate's record
 
   -- the answer and the next state are the plain gate's by the earlier conflict; the book is the same, and the record at exit is sound too
-  pub record CalledBefore (g : Gate) (x : Call) (a : Reply) (h : Gate) : Type 0 where
+  pub record CalledBefore (g : Gate) (x : Call) (a : Replied) (h : Gate) : Type 0 where
     pub plain : PlainCallBy (earlier_of (book_of g)) (book_of g) (state_of g) x (answer_of a) (state_of h)
     pub book : book_of h ≡ book_of g
     pub sound : Sound h
 
   -- the call for C: the numbers of such an answer
   pub record DeckCalledBefore (x : Call) (g h : Gate) (r : Answered) : Type 0 where
-    pub reply : Reply
+    pub reply : Replied
     pub promise : CalledBefore g x reply h
     pub numbers : r ≡ answered (reply_numbers reply)
 
   -- of a sound record g, whether or not calls left it so
   pub record RecordAsBefore (g : Gate) : Type 0 where
-    pub calling : (h : Gate) (x : Call) (a : Reply) → CalledAs g x a h ↔ CalledBefore g x a h
+    pub calling : (h : Gate) (x : Call) (a : Replied) → CalledAs g x a h ↔ CalledBefore g x a h
     pub deck_calling : (h : Gate) (x : Call) (r : Answered) → GateCall x g h r ↔ DeckCalledBefore x g h r
 
   -- ---- a pass over a history: the rows after the steps of l

@@ -1,6 +1,7 @@
 -- A valid book's history and tables, as the tests over tables take them, and what those tests then say of the book's contents.
+use Rattle.std.specs.Prelude.{Ok}
 use Prim.Native.Nat.{ℕ}
-use mathlib.Core.Path.{◌≡◌, refl}
+use mathlib.Core.Path.{refl}
 use mathlib.Core.Bool.{Bool, true, false}
 use mathlib.Core.List.{List}
 use lib.ListN.{take}
@@ -8,12 +9,8 @@ use Rattle.theory.specs.History.{Serial}
 use Rattle.theory.specs.Relative.{Depends, RelativelyAtomic, RelativelySerial}
 use Rattle.book.specs.Format.{Contents, read}
 use Rattle.book.specs.Meaning.{conflict_of, unit_of}
-use Rattle.book.specs.Book.{contents_of, outcome_by, Valid, ReadAs}
-use Rattle.book.specs.declared.Cause.{Cause}
+use Rattle.book.specs.Book.{contents_of, Valid, AcceptedAs}
 use Rattle.book.specs.declared.Book.{Book}
-use Rattle.book.specs.declared.Answer.{Answer}
-use Rattle.book.specs.declared.Answer.TheVariants.{Refused as ReadRefused, Accepted}
-use Rattle.book.specs.declared.Reading.{Reading}
 use Rattle.theory.specs.Answers.{Answers}
 use Rattle.theory.proofs.Answered.{refute}
 use Rattle.dependence.specs.Marks.{Marks}
@@ -21,11 +18,8 @@ use Rattle.graph.specs.Units.{UnitTables}
 use Rattle.dependence.proofs.BookTables.{book_history}
 use Rattle.graph.proofs.ArcMarks.{rowed}
 use Rattle.graph.specs.Inner.Arcs.{Rowed}
-use Rattle.classes.specs.declared.Tested.{Tested}
-use Rattle.classes.specs.declared.Tested.TheVariants.{Refused}
-use Rattle.classes.specs.Tested.{OutcomeTested, TestedAs}
+use Rattle.classes.specs.Tested.{TestedAs}
 use Rattle.classes.specs.Inner.Tables.{AtomicBy, RelativelySerialBy}
-use Rattle.classes.specs.Inner.Books.{tested_by}
 
 module _ (b : Book) (v : Valid b) where
   module _ (t : Bool) where
@@ -54,14 +48,7 @@ module _ (b : Book) (v : Valid b) where
 
 -- ---- what a test says
 
-pub refusal_kept : (m : Answer) (t : Bool) (cause : Cause) (place : ℕ) → m ≡ ReadRefused cause place → Refused cause place ≡ tested_by m t
-refusal_kept m t cause place e = rw e
-
 -- the answer of a test of the book that was read is that of its bytes
-pub tested : (P : Contents → Type 0) (s : List ℕ) (r : Reading) → ReadAs (read s) r → (t : Bool) → Answers (P (contents_of r.book)) t → (y : Tested) → y ≡ tested_by r.answer t → TestedAs P s y
-tested P s r w t a y is = record { tested = rw (← w.outcome, is) (go r.answer t a) }
-  where
-    go : (m : Answer) (t : Bool) → Answers (P (contents_of r.book)) t → OutcomeTested (outcome_by m r.book) P (tested_by m t)
-    go (ReadRefused cause place) t a = record { refusal = refl; numbers = refl }
-    go Accepted true a = a.sound refl
-    go Accepted false a = refute a refl
+pub tested : (P : Contents → Type 0) (s : List ℕ) (b : Book) → AcceptedAs (read s) b → (t : Bool) → Answers (P (contents_of b)) t → TestedAs P s (Ok t)
+tested P s b h true a = record { tested = rw h.outcome (a.sound refl) }
+tested P s b h false a = record { tested = rw h.outcome (refute a refl) }

@@ -1,7 +1,7 @@
 -- The class tests over tables decide the classes.
 use Prim.Native.Nat.{ℕ, ◌+◌, ◌*◌, ◌<◌, zero-le}
 use native.Mathlib.Omega.{arith}
-use mathlib.Core.Path.{◌≡◌, sym, ◌∙◌}
+use mathlib.Core.Path.{◌≡◌, refl, sym, ◌∙◌}
 use mathlib.Core.Logic.{◌⊎◌, inl, inr}
 use mathlib.Core.Bool.{Bool, true, false}
 use mathlib.Core.List.{List}
@@ -17,9 +17,8 @@ use Rattle.dependence.specs.Inner.Tables.{HistoryOf}
 use Rattle.graph.specs.Units.{Firsts, Lasts}
 use Rattle.dependence.proofs.Counting.{history_length, history_run}
 use Rattle.book.specs.Format.{run_limit}
-use Rattle.turns.specs.Inner.Turns.{NoneBelow}
 use Rattle.classes.specs.Inner.Tables.{InterleavedIn, LinkedIn, ViolatesIn, AtomicBy, RelativelySerialBy}
-use Rattle.classes.proofs.Searched.{NonePair}
+use Rattle.classes.proofs.Searched.{NonePair, SomePair}
 use Rattle.classes.proofs.UnitEnds.{interleaved_first, first_before, interleaved_other, dep_first, dep_last}
 
 -- ---- the history's places and the tables
@@ -54,14 +53,15 @@ module _ (history : List ℕ) (n : ℕ) (w : HistoryOf history n) where
   -- ---- relatively atomic
 
   module _ (firsts : List ℕ) where
-    pub atomic_yes : NonePair (InterleavedIn history firsts) n → AtomicBy history n firsts true
-    atomic_yes t = record {
+    pub atomic_answer : (r : Bool) → (r ≡ true → NonePair (InterleavedIn history firsts) n) → (r ≡ false → SomePair (InterleavedIn history firsts) n) → AtomicBy history n firsts r
+    atomic_answer true none some = record {
       answers = λ unit f. answer_yes (λ a b c w.
-          t.none b c w.before (omega (arith, w.inside, size)) (in_interleaved unit firsts f a b c w));
+          (none refl).none c (omega (arith, w.inside, size)) b w.before (in_interleaved unit firsts f a b c w));
     }
-
-    pub atomic_no : (c : ℕ) → c < n → ¬ NoneBelow (λ b. InterleavedIn history firsts b c) c → AtomicBy history n firsts false
-    atomic_no c j t = record { answers = λ unit f. answer_no (λ u. t (record { none = λ b k s. u _ b c (interleaved_in unit firsts f b c k j s) })) }
+    atomic_answer false none some = record { answers = λ unit f. answer_no (λ u. u _ p.b p.c (interleaved_in unit firsts f p.b p.c p.before p.inside p.holds)) }
+      where
+        p : SomePair (InterleavedIn history firsts) n
+        p = some refl
 
   -- ---- relatively serial
 
@@ -120,10 +120,12 @@ module _ (history : List ℕ) (n : ℕ) (w : HistoryOf history n) where
           cd = unit_trans unit (unit_sym unit v.unit_of) u
 
           no : LinkedIn history firsts lasts dep b c → ⊥
-          no e = t.none b c v.before j (record { interleaved = in_interleaved unit firsts f a b c v; linked = e })
+          no e = t.none c j b v.before (record { interleaved = in_interleaved unit firsts f a b c v; linked = e })
 
-    pub relserial_yes : NonePair (ViolatesIn history firsts lasts dep) n → RelativelySerialBy history n firsts lasts dep true
-    relserial_yes t = record { answers = λ conflict unit m f g. answer_yes (serial_all conflict unit m f g t) }
-
-    pub relserial_no : (c : ℕ) → c < n → ¬ NoneBelow (λ b. ViolatesIn history firsts lasts dep b c) c → RelativelySerialBy history n firsts lasts dep false
-    relserial_no c j t = record { answers = λ conflict unit m f g. answer_no (λ u. t (record { none = λ b k s. serial_not conflict unit m f g b c k j s u })) }
+    pub relserial_answer : (r : Bool) → (r ≡ true → NonePair (ViolatesIn history firsts lasts dep) n) → (r ≡ false → SomePair (ViolatesIn history firsts lasts dep) n)
+        → RelativelySerialBy history n firsts lasts dep r
+    relserial_answer true none some = record { answers = λ conflict unit m f g. answer_yes (serial_all conflict unit m f g (none refl)) }
+    relserial_answer false none some = record { answers = λ conflict unit m f g. answer_no (serial_not conflict unit m f g p.b p.c p.before p.inside p.holds) }
+      where
+        p : SomePair (ViolatesIn history firsts lasts dep) n
+        p = some refl

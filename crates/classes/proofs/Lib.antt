@@ -1,7 +1,6 @@
 -- The laws that the proofs of `classes` cite.
---   Searched      a search of pairs of places that has found nothing so far: the loops of the tests
+--   Searched      what a search of pairs of places found: `no_pair`
 --   UnitEnds      a step is interleaved with a unit, or linked to it, exactly if it is with the unit's first or last step
---   PairTests     `interleaved`, `violates`, one law for each way out
 --   ClassLaws     `atomic_by`, `relatively_serial_by`: no pair of places violates exactly if the history is in the class
 --   Collected     a row of bits as the set of the values met so far
 --   SerialLaws    `stands_together`
@@ -11,7 +10,6 @@
 -- which ClassLaws and SerialLaws prove for every conflict and unit whose tables they are, and BookLaws takes to the book's own.
 pub mod Searched
 pub mod UnitEnds
-pub mod PairTests
 pub mod ClassLaws
 pub mod Collected
 pub mod SerialLaws

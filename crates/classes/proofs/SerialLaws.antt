@@ -42,10 +42,6 @@ module _ (history : List ℕ) (n : ℕ) (w : HistoryOf history n) (seen : List �
     met : t ≡ true → bit_at seen 0 (get_or history p 0) ≡ 1
     met e = let q : bit_at seen 0 r ≡ 1 = eqb-true _ 1 (sym test ∙ e) in rw here.is at q
 
-    -- a run that was met has a place before
-    pub met_after : t ≡ true → 0 < p
-    met_after e = let m = u.runs.sound (get_or history p 0) (omega (arith, w.runs.small p)) (met e) in omega (arith, m.below)
-
     module _ (q : ℕ) (before : NumberAt history (p - 1) run_limit q) where
       pub together_same : t ≡ true → q ≡ r → TogetherUpTo history seen (p + 1)
       together_same e same = record { runs = collected_again seen _ p u.runs (met e); together = λ a b c k j i d. go a b c k j d (below_suc (rw (← add-one p) i)) }

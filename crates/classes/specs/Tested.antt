@@ -1,27 +1,40 @@
 -- What a call that reads a book and answers yes or no says: the reader's refusal, or whether the contents have a property (document
 -- 01, "When something is turned away" and "Class tests, evidence, writer, program").
-use Rattle.std.specs.Prelude.{ℕ, ◌≡◌, List}
+use Rattle.std.specs.Prelude.{Result, Ok, Err, ℕ, ◌≡◌, Bool, true, false, List}
 use Rattle.book.specs.Format.{Contents, Outcome, refused, accepted, read}
-use Rattle.book.specs.Numbers.{Numbers, refused_with, value_of}
+use Rattle.book.specs.Numbers.{Numbers, refused_with, numbers_of}
+use Rattle.book.specs.Book.{refusal_at}
 use Rattle.book.specs.declared.Cause.{Cause}
-use Rattle.classes.specs.declared.Tested.{Tested}
-use Rattle.classes.specs.declared.Tested.TheVariants.{Refused, Yes, No}
+use Rattle.book.specs.declared.Refusal.{Refusal}
 
--- each case in numbers: yes is 1, no is 0
+-- a refusal, or yes or no
+abbrev pub Tested : Type 0
+Tested = Result Bool Refusal
+
+abbrev pub Yes : Tested
+Yes = Ok true
+
+abbrev pub No : Tested
+No = Ok false
+
+-- yes is 1, no is 0
+abbrev pub yes_value : Bool → ℕ
+yes_value true = 1
+yes_value false = 0
+
+-- each case in numbers
 abbrev pub tested_numbers : Tested → Numbers
-tested_numbers (Refused cause place) = refused_with cause place
-tested_numbers Yes = value_of 1
-tested_numbers No = value_of 0
+tested_numbers = numbers_of yes_value
 
 -- P holds exactly where the answer is yes
 abbrev pub YesWhere : Type 0 → Tested → Type 0
-YesWhere P (Refused cause place) = ⊥
-YesWhere P Yes = P
-YesWhere P No = ¬ P
+YesWhere P (Err e) = ⊥
+YesWhere P (Ok true) = P
+YesWhere P (Ok false) = ¬ P
 
 -- a book that is refused: the same cause, number and place
 pub record TestRefused (cause : Cause) (place : ℕ) (r : Tested) : Type 0 where
-  pub refusal : r ≡ Refused cause place
+  pub refusal : r ≡ Err (refusal_at cause place)
   pub numbers : tested_numbers r ≡ refused_with cause place
 
 abbrev pub OutcomeTested : Outcome → (Contents → Type 0) → Tested → Type 0

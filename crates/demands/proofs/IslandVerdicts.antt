@@ -1,14 +1,13 @@
 -- The verdicts of a book's islands, one after another; with that of the whole they are as `claims` says.
 use Prim.Native.Nat.{ℕ, ◌+◌, ◌≤◌, ◌<◌}
-use native.Mathlib.Nat.{not-suc-le-zero}
 use native.Mathlib.Numerals.{add-one}
 use native.Mathlib.Omega.{arith}
-use mathlib.Core.Path.{◌≡◌, refl, ◌∙◌}
+use mathlib.Core.Path.{◌≡◌, ◌∙◌}
 use mathlib.Core.Logic.{◌⊎◌, inl, inr}
 use mathlib.Core.List.{List}
 use mir.Val.{Fits}
 use mir.Syntax.{w8}
-use lib.ListN.{length, get_or, set, replicate, length-set}
+use lib.ListN.{length, get_or, set, length-set}
 use lib.Seq.{get_or-set_same, get_or-set_other}
 use Rattle.theory.proofs.Finite.{below_suc}
 use Rattle.book.specs.Format.{run_limit, step_limit}
@@ -21,26 +20,17 @@ use Rattle.claims.proofs.Islands.{island_claims, few_islands, says_by_verdict, d
 use Rattle.demands.specs.Results.{VerdictOf, VerdictsOf, WholeByIslands}
 
 -- those of the first k islands of the list
-pub record VerdictsBelow (s list : List ℕ) (count : ℕ) (verdicts : List ℕ) (k : ℕ) : Type 0 where
+pub record VerdictsBelow (s list verdicts : List ℕ) (k : ℕ) : Type 0 where
   pub long : length verdicts ≡ run_limit
-  pub each : (i : ℕ) → i < k → i < count → VerdictOf s (get_or list i 0) (get_or verdicts i 0)
+  pub each : (i : ℕ) → i < k → VerdictOf s (get_or list i 0) (get_or verdicts i 0)
 
-pub verdicts_none : (s list : List ℕ) (count : ℕ) → VerdictsBelow s list count (replicate run_limit 0) 0
-verdicts_none s list count = record { long = refl; each = λ i h. absurd (not-suc-le-zero h) }
-
-module _ (s list : List ℕ) (count : ℕ) (v : List ℕ) (k : ℕ) (w : VerdictsBelow s list count v k) where
-  pub verdicts_more : k < run_limit → (m : ℕ) → m ≡ get_or list k 0 → (j : Judged) → DeckIslandAnswered s m j → (v' : List ℕ) → v' ≡ set v k j.verdict → VerdictsBelow s list count v' (k + 1)
-  verdicts_more h m em j a v' ev = rw ev (record { long = length-set v k j.verdict ∙ w.long; each = λ i l c. at i c (below_suc (rw (add-one k) at l)) })
-    where
-      at : (i : ℕ) → i < count → (i ≡ k) ⊎ (i < k) → VerdictOf s (get_or list i 0) (get_or (set v k j.verdict) i 0)
-      at i c (inl z) = rw (z, ← em) (record { judged = j; answered = a; is = get_or-set_same v k j.verdict 0 (omega (arith, w.long)) })
-      at i c (inr l) = rw (get_or-set_other v k i j.verdict 0 (λ z. omega arith)) (w.each i l c)
-
-  pub verdicts_over : count ≤ k → (v' : List ℕ) → v' ≡ v → VerdictsBelow s list count v' (k + 1)
-  verdicts_over l v' ev = rw ev (record { long = w.long; each = λ i h c. w.each i (omega arith) c })
-
-  pub verdicts_all : run_limit ≤ k → VerdictsOf s list count v
-  verdicts_all l = record { each = λ i h c. w.each i (omega arith) c }
+pub verdicts_more : (s list v : List ℕ) (k : ℕ) → VerdictsBelow s list v k → k < run_limit → (j : Judged) → DeckIslandAnswered s (get_or list k 0) j
+    → VerdictsBelow s list (set v k j.verdict) (k + 1)
+verdicts_more s list v k w h j a = record { long = length-set v k j.verdict ∙ w.long; each = λ i l. at i (below_suc (rw (add-one k) at l)) }
+  where
+    at : (i : ℕ) → (i ≡ k) ⊎ (i < k) → VerdictOf s (get_or list i 0) (get_or (set v k j.verdict) i 0)
+    at i (inl z) = rw z (record { judged = j; answered = a; is = get_or-set_same v k j.verdict 0 (omega (arith, w.long)) })
+    at i (inr l) = rw (get_or-set_other v k i j.verdict 0 (λ z. omega arith)) (w.each i l)
 
 pub whole_by_islands : (s order order' cycle cycle' : List ℕ) → ((i : ℕ) → Fits w8 (get_or s i 0)) → (j : Judged) → step_limit ≤ length order → step_limit ≤ length cycle
     → JudgeCall s order order' cycle cycle' j → (r : ListedIslands) → IslandsCall s r → (v : List ℕ) → VerdictsOf s r.list r.count v

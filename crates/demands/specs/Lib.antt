@@ -1,4 +1,3 @@
 -- Results: the demands, that the classes are nested, the names of arcs, the one pass over a history, and a run taken back, of what the functions of this
--- crate return or leave. inner is no part of the statement.
+-- crate return or leave.
 pub mod Results
-pub mod Inner

@@ -1,6 +1,6 @@
 -- The demands, that the classes are nested, the names of arcs, the one pass over a history, a run taken back, and a book's islands, of what the functions of
 -- this crate return or leave in the tables lent to them: the results of the public calls, or answers as these promise them.
-use Rattle.std.specs.Prelude.{ℕ, ◌*◌, ◌/◌, ◌≤◌, ◌<◌, ◌≡◌, ◌↔◌, Bool, true, false, List, [], ◌∷◌, ◌++◌, length, get_or, take}
+use Rattle.std.specs.Prelude.{Ok, ℕ, ◌*◌, ◌/◌, ◌≤◌, ◌<◌, ◌≡◌, ◌↔◌, Bool, true, false, List, [], ◌∷◌, ◌++◌, length, get_or, take}
 use Rattle.bits.specs.Table.{row_words}
 use Rattle.buffer.specs.Put.{Put}
 use Rattle.theory.specs.History.{count}
@@ -8,8 +8,7 @@ use Rattle.theory.specs.Deck.{Step, step_of}
 use Rattle.theory.specs.Answers.{Answers}
 use Rattle.book.specs.Format.{Contents, accepted, run_limit, step_limit, read}
 use Rattle.book.specs.Numbers.{value_of}
-use Rattle.classes.specs.declared.Tested.TheVariants.{Yes}
-use Rattle.judge.specs.declared.Judgement.{Judgement}
+use Rattle.judge.specs.Judged.{JudgeAnswer, verdict_of}
 use Rattle.judge.specs.declared.Verdict.TheVariants.{Passed}
 use Rattle.plain.specs.Plain.{step, withdraw, take_back, In}
 use Rattle.gate.specs.Gate.{book_of, state_of, Sound}
@@ -17,7 +16,6 @@ use Rattle.plain.specs.Demand.{Demand3}
 use Rattle.replay.specs.Replay.{calls_of, answers_in}
 use Rattle.gate.specs.declared.Gate.{Gate}
 use Rattle.replay.specs.declared.Replayed.{Replayed}
-use Rattle.replay.specs.declared.Played.TheVariants.{Done}
 use Rattle.names.specs.Names.{names_value}
 use Rattle.names.specs.declared.ArcNames.{ArcNames}
 use Rattle.report.specs.Text.{Findings, tangled, refused_at, accepted_with, text_of}
@@ -39,9 +37,9 @@ use Rattle.claims.specs.Islands.{Partition, DeckIslandAnswered}
 use Rattle.demands.specs.declared.BookAnswers.{BookAnswers}
 use Rattle.demands.specs.declared.DeckCalled.{DeckCalled}
 use Rattle.demands.specs.declared.ClassAnswers.{ClassAnswers}
-use Rattle.demands.specs.declared.DeckClassAnswers.{DeckClassAnswers}
 use Rattle.demands.specs.declared.GateAnswers.{GateAnswers}
 use Rattle.demands.specs.declared.WholeAnswers.{WholeAnswers}
+use Rattle.classes.specs.Tested.{Tested, Yes}
 
 -- the book's rows are this answer's refusals
 abbrev pub ByBook : List ℕ → Answered → Type 0
@@ -89,26 +87,26 @@ pub record IslandJudgeRefusals (s : List ℕ) (run : ℕ) (order order' cycle cy
   pub judged : TurnsAway (IslandJudgeRow s run order cycle) (judged_numbers r) (BuffersUnchanged order order' cycle cycle' r.count)
 
 -- demand 2 of a judgement, where the book is accepted and the buffers are as long as the judge asks
-pub record Demand2Of (s order order' cycle cycle' : List ℕ) (r : Judgement) : Type 0 where
+pub record Demand2Of (s order order' cycle cycle' : List ℕ) (r : JudgeAnswer) : Type 0 where
   pub holds : (c : Contents) → read s ≡ accepted c → step_limit ≤ length order → step_limit ≤ length cycle → Demand2 c order' cycle' r
 
 -- demand 3 of a replay, over the answers in the buffer and the record, where the book is accepted and no row turns the list or the buffer away: then all
 -- calls are made
 pub record Demand3Of (s calls answers answers' : List ℕ) (r : Replayed) : Type 0 where
-  pub all_made : (c : Contents) → read s ≡ accepted c → ((n place : ℕ) → ¬ ReplayRow s calls answers n place) → r.played ≡ Done (length (calls_of calls))
+  pub all_made : (c : Contents) → read s ≡ accepted c → ((n place : ℕ) → ¬ ReplayRow s calls answers n place) → r.played ≡ Ok (length (calls_of calls))
   pub holds : (c : Contents) → read s ≡ accepted c → ((n place : ℕ) → ¬ ReplayRow s calls answers n place)
       → Demand3 s c (calls_of calls) (answers_in (take (2 * length (calls_of calls)) answers')) (state_of r.gate)
 
 -- ---- document 02, change 2: the classes of one book are nested, under any cuts
 
 -- of the answers that the calls promise
-pub record NestedAnswers (s : List ℕ) (r : ClassAnswers) : Type 0 where
-  pub promised : ClassesAnswered s r.serial r.atomic r.relserial r.conflict r.judgement
-  pub nested : NestedCalls r.serial r.atomic r.relserial r.conflict r.judgement
-  pub any_cuts : (s' : List ℕ) → OtherCuts s s' → (j : Judgement) → JudgeAnswered s' j → r.conflict ≡ Yes → j.verdict ≡ Passed
+pub record NestedAnswers (s : List ℕ) (r : ClassAnswers Tested JudgeAnswer) : Type 0 where
+  pub promised : ClassesAnswered s r.serial r.atomic r.relserial r.conflict r.judged
+  pub nested : NestedCalls r.serial r.atomic r.relserial r.conflict r.judged
+  pub any_cuts : (s' : List ℕ) → OtherCuts s s' → (j : JudgeAnswer) → JudgeAnswered s' j → r.conflict ≡ Yes → verdict_of j ≡ Ok Passed
 
 -- the same of the calls for C
-pub record NestedDeckAnswers (s : List ℕ) (r : DeckClassAnswers) : Type 0 where
+pub record NestedDeckAnswers (s : List ℕ) (r : ClassAnswers Answered Judged) : Type 0 where
   pub promised : DeckClassesAnswered s r.serial r.atomic r.relserial r.conflict r.judged
   pub nested : NestedDeckCalls r.serial r.atomic r.relserial r.conflict r.judged
   pub any_cuts : (s' : List ℕ) → OtherCuts s s' → (j : Judged) → DeckJudgeAnswered s' j → SaysYes r.conflict → SaysPassed j

@@ -6,19 +6,17 @@
 // it of whatever meets the calls' contracts.
 #![tactic(auto)]
 
-ghost use Rattle.book.specs.Book.{Valid, as_step, outcome_by};
-ghost use Rattle.plain.specs.Plain.{step as step_call, withdraw as withdraw_call, take_back as take_back_call};
-ghost use Rattle.capi.specs.Calls.{GateCall};
+ghost use Rattle.std.specs.Fn.{FnOnceReturnsAtMut};
+ghost use Rattle.book.specs.Book.{as_step};
 ghost use Rattle.demands.specs.Results.{BookRefusals, JudgeRefusals, WriteRefusals, ReplayRefusals, TextRefusals, GateRefusals, Demand2Of, Demand3Of, NestedAnswers, NestedDeckAnswers, NestedText, ArcsNamed, TextLettered, StepFed, TakenBackAs, IslandRefusals, IslandJudgeRefusals, VerdictsOf, WholeByIslands};
 ghost use Rattle.claims.specs.Islands.{DeckIslandAnswered};
-ghost use Rattle.demands.specs.Inner.Readings.{OutcomeAnswered};
 
 use bits::Table;
-use book::{Answer, Book, Step};
+use book::{Book, Refusal, Step};
 use capi::{Answered, Judged, ListedIslands, ListedSteps, OpenedGate};
 use classes::Tested;
 use gate::Gate;
-use judge::{Judgement, Verdict};
+use judge::Judgement;
 use replay::Replayed;
 
 // What the calls that read a book and change nothing return.
@@ -59,7 +57,7 @@ pub struct GateAnswers {
 }
 
 // The calls that read a book and change nothing.
-fn book_answers<'a>(s: &'a [u8], list: &'a [u8], from: usize, to: usize) -> BookAnswers
+fn book_answers(s: &[u8], list: &[u8], from: usize, to: usize) -> BookAnswers
     ensures { BookRefusals s.now result }
 {
     let read_book = capi::deck_read(s);
@@ -84,51 +82,30 @@ fn book_answers<'a>(s: &'a [u8], list: &'a [u8], from: usize, to: usize) -> Book
     }
 }
 
-// `deck_step`, for a caller that holds the record by value.
-fn after_deck_step(g: Gate, run: u8) -> DeckCalled
-    ensures { GateCall (step_call run) g result.gate result.answer }
+// What a call answers that is made on a copy of the gate's record, and the copy as the call leaves it.
+fn called<F: FnOnce(&mut Gate) -> Answered>(mut gate: Gate, call: F) -> DeckCalled
+    requires { F.IsAlwaysCallable call }
+    ensures { FnOnceReturnsAtMut F.FnOnce call gate result.answer result.gate }
 {
-    let mut h = g;
-    let answer = capi::deck_step(&mut h, run);
-    DeckCalled { answer, gate: h }
+    let answer = call(&mut gate);
+    DeckCalled { answer, gate }
 }
 
-// `deck_withdraw`, for a caller that holds the record by value.
-fn after_deck_withdraw(g: Gate, run: u8) -> DeckCalled
-    ensures { GateCall (withdraw_call run) g result.gate result.answer }
-{
-    let mut h = g;
-    let answer = capi::deck_withdraw(&mut h, run);
-    DeckCalled { answer, gate: h }
-}
-
-// `deck_take_back`, for a caller that holds the record by value.
-fn after_deck_take_back(g: Gate, run: u8) -> DeckCalled
-    ensures { GateCall (take_back_call run) g result.gate result.answer }
-{
-    let mut h = g;
-    let answer = capi::deck_take_back(&mut h, run);
-    DeckCalled { answer, gate: h }
-}
-
-// The calls on a gate's record, each on the same record.
+// The calls on a gate's record, each on a copy of its own.
 fn gate_answers(g: Gate, run: u8) -> GateAnswers
     ensures { GateRefusals g run result }
 {
-    let stepped = after_deck_step(g, run);
-    let withdrawn = after_deck_withdraw(g, run);
-    let taken_back = after_deck_take_back(g, run);
     GateAnswers {
-        stepped,
-        withdrawn,
-        taken_back,
+        stepped: called(g, |gate| capi::deck_step(gate, run)),
+        withdrawn: called(g, |gate| capi::deck_withdraw(gate, run)),
+        taken_back: called(g, |gate| capi::deck_take_back(gate, run)),
     }
 }
 
 // The calls that are lent a buffer.
-fn buffer_answers<'a>(
-    s: &'a [u8],
-    calls: &'a [u8],
+fn buffer_answers(
+    s: &[u8],
+    calls: &[u8],
     order: &mut [u8],
     cycle: &mut [u8],
     out: &mut [u8],
@@ -165,12 +142,12 @@ pub struct AllAnswers {
 }
 
 // Demand 1 of every call but those on islands: on a book's bytes, a list for the two checks, two places, a list of calls, buffers, and a gate's record.
-pub fn demand_1<'a>(
-    s: &'a [u8],
-    list: &'a [u8],
+pub fn demand_1(
+    s: &[u8],
+    list: &[u8],
     from: usize,
     to: usize,
-    calls: &'a [u8],
+    calls: &[u8],
     order: &mut [u8],
     cycle: &mut [u8],
     out: &mut [u8],
@@ -221,7 +198,7 @@ pub fn demand_1_of_islands(s: &[u8], run: u8, order: &mut [u8], cycle: &mut [u8]
 }
 
 // Demand 2 of the judge.
-pub fn demand_2(s: &[u8], order: &mut [u8], cycle: &mut [u8]) -> Judgement
+pub fn demand_2(s: &[u8], order: &mut [u8], cycle: &mut [u8]) -> Result<Judgement, Refusal>
     ensures { Demand2Of s.now order.old order.new cycle.old cycle.new result }
 {
     judge::judge(s, order, cycle)
@@ -234,71 +211,38 @@ pub fn demand_3(s: &[u8], calls: &[u8], answers: &mut [u8]) -> Replayed
     replay::replay(s, calls, answers)
 }
 
-// What the four class tests and the judge answer to one book.
+// What four class tests, each of which answers a T, and the judge, who answers a J, answer to one book.
 #[derive(Clone, Copy)]
-pub struct ClassAnswers {
-    pub serial: Tested,
-    pub atomic: Tested,
-    pub relserial: Tested,
-    pub conflict: Tested,
-    pub judgement: Judgement,
+pub struct ClassAnswers<T, J> {
+    pub serial: T,
+    pub atomic: T,
+    pub relserial: T,
+    pub conflict: T,
+    pub judged: J,
 }
 
-// The judge's answer to a book that was read: the reader's refusal, or the judgement on its history.
-fn judgement_by(answer: Answer, b: Book) -> Judgement
-    requires { Valid b }
-    ensures { OutcomeAnswered (outcome_by answer b) result }
-{
-    let mut order = [0u8; Book::STEPS];
-    let mut cycle = [0u8; Book::STEPS];
-    let mut values = [0u8; Book::STEPS];
-    match answer {
-        Answer::Refused(cause, place) => Judgement {
-            verdict: Verdict::Refused(cause, place),
-            count: 0,
-        },
-        Answer::Accepted => judge::judge_book(b, &mut order, &mut cycle, &mut values),
-    }
-}
-
-// The five classes of one book, which is read once.
-pub fn nested_classes(s: &[u8]) -> ClassAnswers
+// The five classes of one book.
+pub fn nested_classes(s: &[u8]) -> ClassAnswers<Tested, Result<Judgement, Refusal>>
     ensures { NestedAnswers s.now result }
 {
-    let reading = reader::read(s);
-    let answer = reading.answer;
-    let b = reading.book;
-    let serial = classes::tested_by(answer, classes::is_serial(b));
-    let atomic = classes::tested_by(answer, classes::is_relatively_atomic(b));
-    let relserial = classes::tested_by(answer, classes::is_relatively_serial(b));
-    let conflict = classes::tested_by(answer, classes::is_conflict_serializable(b));
-    let judgement = judgement_by(answer, b);
+    let mut order = [0; Book::STEPS];
+    let mut cycle = [0; Book::STEPS];
     ClassAnswers {
-        serial,
-        atomic,
-        relserial,
-        conflict,
-        judgement,
+        serial: classes::serial(s),
+        atomic: classes::relatively_atomic(s),
+        relserial: classes::relatively_serial(s),
+        conflict: classes::conflict_serializable(s),
+        judged: judge::judge(s, &mut order, &mut cycle),
     }
-}
-
-// What the four class tests and the judge for C answer to one book.
-#[derive(Clone, Copy)]
-pub struct DeckClassAnswers {
-    pub serial: Answered,
-    pub atomic: Answered,
-    pub relserial: Answered,
-    pub conflict: Answered,
-    pub judged: Judged,
 }
 
 // The five classes of one book, by the calls for C.
-pub fn nested_deck_classes(s: &[u8]) -> DeckClassAnswers
+pub fn nested_deck_classes(s: &[u8]) -> ClassAnswers<Answered, Judged>
     ensures { NestedDeckAnswers s.now result }
 {
     let mut order = [0u8; Book::STEPS];
     let mut cycle = [0u8; Book::STEPS];
-    DeckClassAnswers {
+    ClassAnswers {
         serial: capi::deck_serial(s),
         atomic: capi::deck_atomic(s),
         relserial: capi::deck_relserial(s),
@@ -347,7 +291,7 @@ pub fn feed_step(
 pub fn run_taken_back(g: Gate, run: u8) -> DeckCalled
     ensures { TakenBackAs g run result }
 {
-    after_deck_take_back(g, run)
+    called(g, |gate| capi::deck_take_back(gate, run))
 }
 
 // The judge of one island, with buffers of its own.
@@ -359,18 +303,13 @@ fn island_judged(s: &[u8], run: u8) -> Judged
     capi::deck_judge_island(s, run, &mut order, &mut cycle)
 }
 
-// The verdict on each of the first islands of the list, as many as the count.
-fn island_verdicts(s: &[u8], list: [u8; Book::RUNS], count: u64) -> [u64; Book::RUNS]
-    ensures { VerdictsOf s.now list count result }
+// The verdict on each island of the list.
+fn island_verdicts(s: &[u8], islands: ListedIslands) -> [u64; Book::RUNS]
+    ensures { VerdictsOf s.now islands.list islands.count result }
 {
     let mut verdicts = [0u64; Book::RUNS];
-    let mut i = 0;
-    while i < Book::RUNS {
-        if (i as u64) < count {
-            let j = island_judged(s, list[i]);
-            verdicts[i] = j.verdict;
-        }
-        i += 1;
+    for i in 0..Book::RUNS.min(islands.count as usize) {
+        verdicts[i] = island_judged(s, islands.list[i]).verdict;
     }
     verdicts
 }
@@ -391,8 +330,7 @@ pub fn islands_judged(s: &[u8]) -> WholeAnswers
     let mut cycle = [0u8; Book::STEPS];
     let judged = capi::deck_judge(s, &mut order, &mut cycle);
     let islands = capi::deck_islands(s);
-    let list = islands.list;
-    let verdicts = island_verdicts(s, list, islands.count);
+    let verdicts = island_verdicts(s, islands);
     WholeAnswers {
         judged,
         islands,

@@ -9,8 +9,8 @@ use mathlib.Core.List.{List, [], ◌∷◌, ◌++◌}
 use lib.ListN.{length, replicate}
 use lib.Seq.{get_or-append_seam, take-append_seam}
 use lib.Dec.{T}
-use borrow.Author.Tests.{eqb-true, eq-eqb, ne_eqb}
-use Rattle.bits.specs.Table.{row_bits, bit_at, union, intersection, Marked, Replaced, RowCopied, Subset}
+use borrow.Author.Tests.{eqb-true}
+use Rattle.bits.specs.Table.{row_bits, bit_at, union, intersection, Marked, Replaced, Subset}
 use Rattle.bits.proofs.Store.{bit_at_lt, zeros_bit, alone_added}
 use Rattle.theory.specs.History.{count, run, ordinal}
 use Rattle.theory.specs.Deck.{Pair, Touch, Step, single, transfer, step_of, listed, home, same_position, touches_conflict}
@@ -23,28 +23,12 @@ use Rattle.theory.proofs.DeckLaws.{same_number, same_where_first_homes, same_whe
 use Rattle.book.specs.Format.{kind_limit, run_limit}
 use Rattle.book.specs.Book.{pairs_of}
 use Rattle.dependence.specs.Catalogue.{base, homes, part, done_step, Which, first_touches, second_touches, HasTouch, touch_in, run_in, PartIs, PairedWith, Catalogued, digit_parts, run_part, home_part, parts, part_rows}
-use Rattle.dependence.specs.Inner.Reading.{PartRow, HomesAs, OtherHomeRow, Entered, PartsEntered, KindsEntered, KindsJoined, KindEntered, KindJoined, TouchEntered, TouchJoined, SecondEntered, StepEntered, Has, Finds, TouchConflicts, StepHas, StepFinds, ConflictsWith, Linked}
+use Rattle.dependence.specs.Inner.Reading.{PartRow, OtherHomeRow, Entered, PartsEntered, KindsEntered, KindEntered, KindJoined, TouchEntered, SecondEntered, StepEntered, Has, Finds, TouchConflicts, StepHas, StepFinds, ConflictsWith, Linked}
 use Rattle.dependence.specs.Inner.Tables.{RunRows}
-use Rattle.dependence.proofs.Counting.{low, clash, below_next}
+use Rattle.dependence.proofs.Counting.{clash, below_next}
 use Rattle.dependence.proofs.Rows.{either_one, added_from, added, kept_from, kept}
 
 -- ---- the rows of the parts
-
-pub part_found : (r : ℕ) (x : Touch) (k j v : ℕ) → k ≡ j → v ≡ part r x j → v < base → j < parts → PartRow r x k (k * base + v)
-part_found r x k j v e p l m = rw e (record { is = omega (arith, p); low = omega (arith, p); in_table = omega arith })
-
--- a part that is none of the first five is whether the touch homes
-pub home_only : (k : ℕ) → k < parts → k ≢ 0 → k ≢ 1 → k ≢ 2 → k ≢ 3 → k ≢ 4 → k ≡ home_part
-home_only zero l n0 n1 n2 n3 n4 = absurd (n0 refl)
-home_only (suc zero) l n0 n1 n2 n3 n4 = absurd (n1 refl)
-home_only (suc (suc zero)) l n0 n1 n2 n3 n4 = absurd (n2 refl)
-home_only (suc (suc (suc zero))) l n0 n1 n2 n3 n4 = absurd (n3 refl)
-home_only (suc (suc (suc (suc zero)))) l n0 n1 n2 n3 n4 = absurd (n4 refl)
-home_only (suc (suc (suc (suc (suc zero))))) l n0 n1 n2 n3 n4 = refl
-home_only (suc (suc (suc (suc (suc (suc k)))))) l n0 n1 n2 n3 n4 = absurd (beyond k l)
-  where
-    beyond : (k : ℕ) → suc (suc (suc (suc (suc (suc k))))) < parts → ⊥
-    beyond k l = omega arith
 
 -- a touch homes or it does not
 abbrev HomesOrNot : Touch → Type 0
@@ -56,12 +40,6 @@ homes_cases x = go (eq_cases x.position home)
     go : Compared x.position home → HomesOrNot x
     go (inl c) = inl (rw c.0, c.1)
     go (inr c) = inr (rw c.0, c.1)
-
-pub does_home : (x : Touch) → x.position ≡ home → HomesAs x 1
-does_home x e = record { is = rw (eq-eqb x.position home e); low = omega arith }
-
-pub does_not_home : (x : Touch) → x.position ≢ home → HomesAs x 0
-does_not_home x n = record { is = rw (ne_eqb x.position home n); low = omega arith }
 
 -- ---- which places are found
 
@@ -114,16 +92,6 @@ pub record PairedAt (r : ℕ) (x : Touch) (m : ℕ) (pairs : List Pair) (s : ℕ
   pub same : (k : ℕ) → k < m → SamePart s y r x k
 
 module _ (t : List ℕ) (r : ℕ) (x : Touch) where
-  pub at_none : (m : List ℕ) (kind : ℕ) → kind ≡ x.kind → x.kind < kind_limit → RowCopied t (part_rows + kind) m → Finds (PairedAt r x 0) t m
-  at_none m kind e lk v = let f : RowCopied t (part_rows + x.kind) m = rw e at v in record {
-    columns = λ pairs w runs h c. record {
-      sound = λ p i b.
-          let a = c.kinds_sound p x.kind i lk (sym (f.same p i) ∙ b) in
-          record { inside = a.inside; has = a.has; holds = record { kinds = a.paired; same = λ k l. absurd (low k l) } };
-      complete = λ p i a. f.same p i ∙ c.kinds_complete p x.kind i lk (record { inside = a.inside; has = a.has; paired = a.holds.kinds });
-    };
-  }
-
   module _ (m u : List ℕ) (k row other : ℕ) (d : PartRow r x k row) (o : OtherHomeRow x other) where
     -- the columns of either row
     abbrev either : ℕ → ℕ
@@ -378,9 +346,6 @@ linked_all t v m u r x hr f s =
 
 -- ---- one step more
 
-entered_none : (t : List ℕ) (q r : ℕ) (x : Touch) → Entered t t q r x 0
-entered_none t q r x = record { here = λ k l. absurd (low k l); other = λ y p h n. refl }
-
 entered_more : (t u v : List ℕ) (q r : ℕ) (x : Touch) (k row : ℕ) → q < row_bits → PartRow r x k row → Marked u v row q → Entered t u q r x k → Entered t v q r x (k + 1)
 entered_more t u v q r x k row hq d m w = record {
   here = λ j l. here j (below_next j k l) (ℕ_discrete (j * base + part r x j) row);
@@ -397,20 +362,11 @@ entered_more t u v q r x k row hq d m w = record {
         let ek : y / base ≡ k = omega (arith, d.is, d.low) in
         ap (part r x) ek ∙ omega (arith, d.is, d.low)
 
-entered_all : (t u : List ℕ) (q r : ℕ) (x : Touch) (k : ℕ) → Entered t u q r x k → k ≤ parts → parts ≤ k → Entered t u q r x parts
-entered_all t u q r x k w a b = let e : k ≡ parts = omega arith in rw e at w
-
 -- the place whose column the row has
 module _ (t column : List ℕ) (r : ℕ) (x : Touch) where
-  pub parts_none : PartsEntered t t column r x 0
-  parts_none = record { place = λ q h a. entered_none t q r x }
-
   pub parts_more : (u v : List ℕ) (k row : ℕ) → PartRow r x k row → Replaced u v row (union (bit_at u row) (bit_at column 0)) → PartsEntered t u column r x k
       → PartsEntered t v column r x (k + 1)
   parts_more u v k row d w f = record { place = λ q h a. entered_more t u v q r x k row h d (alone_added u v column row q h a w) (f.place q h a) }
-
-  pub parts_all : (u : List ℕ) (k : ℕ) → PartsEntered t u column r x k → k ≤ parts → parts ≤ k → PartsEntered t u column r x parts
-  parts_all u k f a b = record { place = λ q h c. entered_all t u q r x k (f.place q h c) a b }
 
 -- no touch has a part beyond the last
 part_few : (r : ℕ) (x : Touch) (k v : ℕ) → v < base → part r x k ≡ v → k < parts
@@ -423,17 +379,6 @@ part_few r x (suc (suc (suc (suc (suc zero))))) v l e = omega arith
 part_few r x (suc (suc (suc (suc (suc (suc k)))))) v l e = omega arith
 
 -- the rows of the kinds
-module _ (pairs t column : List ℕ) (kind : ℕ) where
-  pub kinds_none : KindsJoined pairs t t column kind 0
-  kinds_none = record { place = λ q h a. record { here = λ v l e. absurd (low v l); other = λ y p h n. refl } }
-
-  pub kinds_more : (u u' : List ℕ) (k : ℕ) → KindJoined pairs u u' column kind k → KindsJoined pairs t u column kind k
-      → KindsJoined pairs t u' column kind (k + 1)
-  kinds_more u u' k m w = record { place = λ q h a. (m.place q h a).more t (w.place q h a) }
-
-  pub kinds_all : (u : List ℕ) (k : ℕ) → KindsJoined pairs t u column kind k → k ≤ kind_limit → kind_limit ≤ k → KindsJoined pairs t u column kind kind_limit
-  kinds_all u k w a b = let e : k ≡ kind_limit = omega arith in rw e at w
-
 module _ (pairs t : List ℕ) (q kind : ℕ) where
   module _ (k : ℕ) (answer : Bool) (e : answer ≡ listed (pairs_of pairs) kind k) where
     left : answer ≡ false → KindEntered pairs t t q kind k
@@ -467,10 +412,6 @@ module _ (pairs t column : List ℕ) (kind k : ℕ) (answer : Bool) (e : answer 
 
   pub kind_joined : (u : List ℕ) → answer ≡ true → Replaced t u (part_rows + k) (union (bit_at t (part_rows + k)) (bit_at column 0)) → KindJoined pairs t u column kind k
   kind_joined u z w = record { place = λ q h a. marked pairs t q kind k answer e u z h (alone_added t u column (part_rows + k) q h a w) }
-
-pub touch_entered : (pairs t s u column : List ℕ) (r kind : ℕ) (x : Touch) → PartsEntered t s column r x parts → kind ≡ x.kind
-    → KindsJoined pairs s u column kind kind_limit → TouchJoined pairs t u column r x
-touch_entered pairs t s u column r kind x a e b = record { place = λ q h c. record { between = s; by_parts = a.place q h c; by_kinds = rw e at (b.place q h c) } }
 
 -- the run and the step of the place that is read
 module _ (runs : List (List Step)) (h : List ℕ) (r : ℕ) where

@@ -10,7 +10,7 @@ use lib.Seq.{get_or-take, length-take-le}
 use Rattle.theory.specs.History.{run}
 use Rattle.theory.proofs.Finite.{below_suc}
 use Rattle.book.specs.Format.{run_limit}
-use Rattle.dependence.specs.Inner.Tables.{Small, HistoryOf, NumberAt}
+use Rattle.dependence.specs.Inner.Tables.{HistoryOf}
 
 pub low : (k : ℕ) → k < 0 → ⊥
 low k l = omega arith
@@ -21,9 +21,6 @@ clash u v = omega arith
 -- a number below p + 1 is p or below p
 pub below_next : (k p : ℕ) → k < p + 1 → (k ≡ p) ⊎ (k < p)
 below_next k p h = below_suc (rw (add-one p) at h)
-
-pub number_at : (t : List ℕ) (p m r : ℕ) → Small m t → r ≡ get_or t p 0 → NumberAt t p m r
-number_at t p m r s e = record { is = e; small = rw e (s.small p) }
 
 pub history_length : {history : List ℕ} {n : ℕ} → HistoryOf history n → length (take n history) ≡ n
 history_length {history} {n} w = length-take-le n history (omega (arith, w.within, w.long))

@@ -1,5 +1,6 @@
 -- The dependence table, one row after another. A row takes the places on which its place directly depends, from the last down, each with what
 -- it depends on. A place that the row has already adds nothing, since with a place the row has all that the place depends on.
+use Rattle.std.specs.Prelude.{Option, Some, None}
 use Prim.Native.Nat.{ℕ, suc, ◌+◌, ◌≤◌, ◌<◌}
 use native.Mathlib.Decide.{ℕ_discrete, dec_lt}
 use native.Mathlib.Omega.{arith}
@@ -13,8 +14,6 @@ use borrow.Author.Tests.{ne_eqb}
 use Rattle.bits.specs.Table.{row_bits, rows, bit_at, union, difference, Marked, Replaced}
 use Rattle.bits.specs.First.{NoColumn}
 use Rattle.bits.specs.Last.{LastAt, Last}
-use Rattle.bits.specs.declared.Found.{Found}
-use Rattle.bits.specs.declared.Found.TheVariants.{At, Nothing}
 use Rattle.bits.proofs.Store.{bit_at_lt, zeros_bit}
 use Rattle.theory.specs.History.{count, run, ordinal}
 use Rattle.theory.specs.Deck.{Pair, Step, step_of, steps_conflict, conflict}
@@ -69,15 +68,12 @@ module _ (dep linked : List ℕ) where
     pub closure_end : end ≤ 0 → RowFrom dep linked m
     closure_end z = taken_all (λ k h e. w.taken k h (omega arith) e)
 
-    pub closure_full : (found : Found) → Last (difference (bit_at linked 0) (bit_at m 0)) found → found ≡ Nothing → RowFrom dep linked m
+    pub closure_full : (found : Option ℕ) → Last (difference (bit_at linked 0) (bit_at m 0)) found → found ≡ None → RowFrom dep linked m
     closure_full found f e = let n : NoColumn (difference (bit_at linked 0) (bit_at m 0)) = rw e at f in taken_all (λ k h e. omega (arith, n.none k h, bit_at_lt m 0 k))
 
-    module _ (found : Found) (p : ℕ) (f : Last (difference (bit_at linked 0) (bit_at m 0)) found) (ef : found ≡ At p) where
+    module _ (found : Option ℕ) (p : ℕ) (f : Last (difference (bit_at linked 0) (bit_at m 0)) found) (ef : found ≡ Some p) where
       at_last : LastAt (difference (bit_at linked 0) (bit_at m 0)) p
       at_last = rw ef at f
-
-      pub closure_place : p < rows
-      closure_place = at_last.in_row
 
       in_linked : bit_at linked 0 p ≡ 1
       in_linked = omega (arith, at_last.here, bit_at_lt linked 0 p)
@@ -287,12 +283,6 @@ module _ (pairs t v dep : List ℕ) (q r : ℕ) (x : Step) where
     same_rows = λ e. refl;
   }
 
-  pub no_place : step_limit ≤ q → StepAnswered pairs t t v v dep dep q r x false
-  no_place l = refused (λ i. omega (arith, i.place))
-
-  pub no_run : run_limit ≤ r → StepAnswered pairs t t v v dep dep q r x false
-  no_run l = refused (λ i. omega (arith, i.run))
-
   pub no_kind : (b : Bool) → b ≡ kinds_low x → b ≡ false → StepAnswered pairs t t v v dep dep q r x false
   no_kind b a e = refused (λ i. true≢false (sym ((kinds_answer x).complete i.kinds) ∙ sym a ∙ e))
 
@@ -327,13 +317,6 @@ pub none_read : (pairs : List Pair) (runs : List (List Step)) (t v dep : List �
 none_read pairs runs t v dep b c d = record {
   so_far = record { sound = λ x y hx hy e. absurd (clash (d.none x y hx hy) e); complete = λ x y hx hy k. absurd (low y (dep_inside (conflict pairs runs) k)) };
   to_come = λ x y hx l hy. d.none x y hx hy;
-  firsts_catalogued = none_catalogued pairs first_touches runs t b;
-  seconds_catalogued = none_catalogued pairs second_touches runs v c;
-}
-
-pub none_linked : (pairs : List Pair) (runs : List (List Step)) (t v links : List ℕ) → Blank t → Blank v → Blank links → StepsLinked pairs runs [] t v links
-none_linked pairs runs t v links b c d = record {
-  rows_are = record { sound = λ x y hx hy e. absurd (clash (d.none x y hx hy) e); complete = λ x y hx hy k. absurd (low k.q k.directly.inside) };
   firsts_catalogued = none_catalogued pairs first_touches runs t b;
   seconds_catalogued = none_catalogued pairs second_touches runs v c;
 }

@@ -1,5 +1,5 @@
 -- The steps of a history in the table of a book's steps, one by one.
-use Prim.Native.Nat.{ℕ, zero, suc, ◌+◌, ◌-◌, ◌/◌, ◌%◌, ◌≤◌, ◌<◌}
+use Prim.Native.Nat.{ℕ, suc, ◌+◌, ◌-◌, ◌≤◌, ◌<◌}
 use native.Mathlib.Numerals.{add-one}
 use native.Mathlib.Decide.{ℕ_discrete}
 use native.Mathlib.Omega.{arith}
@@ -9,20 +9,18 @@ use mathlib.Core.List.{List, [], ◌∷◌, ◌++◌}
 use mir.Val.{Fits}
 use mir.Syntax.{w8}
 use lib.ListN.{length, get_or, take, set, length-set}
-use lib.Seq.{get_or-set_same, get_or-set_other, take-take, length-take-le}
+use lib.Seq.{get_or-set_same, get_or-set_other, length-take-le}
 use Rattle.theory.specs.Lists.{sum}
-use Rattle.book.specs.Format.{kind_limit, run_limit, step_limit}
-use Rattle.book.specs.Book.{touch_limit, code_limit, touch_coded, step_with, step_coded, as_step, pairs_of}
+use Rattle.book.specs.Format.{run_limit, step_limit}
+use Rattle.book.specs.Book.{as_step, pairs_of}
 use Rattle.book.specs.declared.Step.{Step as StepValue}
 use Rattle.theory.specs.History.{count, run, ordinal}
 use Rattle.theory.proofs.Lists.{count_take_lt, count_take_ne, count_take_le, take_last, sum_take, sum_take_le}
-use Rattle.theory.specs.Deck.{Touch, Step, step_of}
-use Rattle.theory.specs.Transfers.{TouchOf, only, first, second}
-use Rattle.dependence.specs.Dependence.{Blank, StepsRead, KindsLow, StepRead}
-use Rattle.dependence.specs.Inner.Tables.{Small, HistoryOf, Starts, RunsRoom, StepsOf, step_in, StepAt}
-use Rattle.dependence.specs.Inner.Reading.{ReadFromCodes, StepsLinked, StepLinked, LinkedFromCodes}
-use Rattle.dependence.proofs.Counting.{low, below_next, history_length, history_run}
-use Rattle.dependence.proofs.DependenceRows.{none_read, none_linked}
+use Rattle.theory.specs.Deck.{Step, step_of}
+use Rattle.dependence.specs.Dependence.{StepsRead, StepRead}
+use Rattle.dependence.specs.Inner.Tables.{HistoryOf, Starts, RunsRoom, StepsOf, step_in, StepAt, NextTaken}
+use Rattle.dependence.specs.Inner.Reading.{StepsLinked, StepLinked}
+use Rattle.dependence.proofs.Counting.{below_next, history_length, history_run}
 
 -- ---- where each run's steps begin
 
@@ -30,9 +28,6 @@ use Rattle.dependence.proofs.DependenceRows.{none_read, none_linked}
 pub record StartsBelow (lengths t : List ℕ) (s r : ℕ) : Type 0 where
   pub next : s ≡ sum (take r lengths)
   pub are : (k : ℕ) → k < r → get_or t k 0 ≡ sum (take k lengths)
-
-pub starts_none : (lengths t : List ℕ) → StartsBelow lengths t 0 0
-starts_none lengths t = record { next = refl; are = λ k i. absurd (low k i) }
 
 module _ (lengths t : List ℕ) (s r : ℕ) (w : StartsBelow lengths t s r) where
   pub starts_fit : sum lengths ≤ step_limit → Fits w8 (s + get_or lengths r 0)
@@ -44,9 +39,6 @@ module _ (lengths t : List ℕ) (s r : ℕ) (w : StartsBelow lengths t s r) wher
       at : (k : ℕ) → (k ≡ r) ⊎ (k < r) → get_or (set t r s) k 0 ≡ sum (take k lengths)
       at k (inl e) = rw e (get_or-set_same t r s 0 (omega arith) ∙ w.next)
       at k (inr j) = get_or-set_other t r k s 0 (λ e. omega arith) ∙ w.are k j
-
-  pub starts_all : run_limit ≤ r → Starts lengths t
-  starts_all l = record { are = λ k i. w.are k (omega arith) }
 
 -- ---- step by step
 
@@ -69,32 +61,6 @@ ReadUpTo pairs h lengths starts steps next catalogue seconds dep n q = UpTo (λ 
 
 abbrev pub LinkedUpTo : List ℕ → List ℕ → List ℕ → List ℕ → List ℕ → List ℕ → List ℕ → List ℕ → List ℕ → ℕ → ℕ → Type 0
 LinkedUpTo pairs h lengths starts steps next catalogue seconds links n q = UpTo (λ runs l. StepsLinked (pairs_of pairs) runs l catalogue seconds links) h lengths starts steps next n q
-
-none_up_to : (P : List (List Step) → List ℕ → Type 0) (h lengths starts steps : List ℕ) (n : ℕ) → length starts ≡ run_limit → Starts lengths starts → RunsRoom h lengths
-    → ((runs : List (List Step)) → P runs []) → UpTo P h lengths starts steps starts n 0
-none_up_to P h lengths starts steps n l s m f = record { within = omega arith; starts_are = s; room = m; size = l; next_are = record { at = λ r i. omega arith }; read = λ runs s. f runs }
-
-pub read_none : (pairs h lengths starts steps catalogue seconds dep : List ℕ) (n : ℕ) → length starts ≡ run_limit → Starts lengths starts → RunsRoom h lengths
-    → Blank catalogue → Blank seconds → Blank dep → ReadUpTo pairs h lengths starts steps starts catalogue seconds dep n 0
-read_none pairs h lengths starts steps catalogue seconds dep n l s m b c d =
-    none_up_to _ h lengths starts steps n l s m (λ runs. none_read (pairs_of pairs) runs catalogue seconds dep b c d)
-
-pub links_none : (pairs h lengths starts steps catalogue seconds links : List ℕ) (n : ℕ) → length starts ≡ run_limit → Starts lengths starts → RunsRoom h lengths
-    → Blank catalogue → Blank seconds → Blank links → LinkedUpTo pairs h lengths starts steps starts catalogue seconds links n 0
-links_none pairs h lengths starts steps catalogue seconds links n l s m b c d =
-    none_up_to _ h lengths starts steps n l s m (λ runs. none_linked (pairs_of pairs) runs catalogue seconds links b c d)
-
-all_up_to : (P : List (List Step) → List ℕ → Type 0) (history lengths starts steps next : List ℕ) (n q : ℕ) → UpTo P (take n history) lengths starts steps next n q → n ≤ q
-    → (runs : List (List Step)) → StepsOf runs (take n history) lengths steps → P runs (take n history)
-all_up_to P history lengths starts steps next n q w l runs s = let e : q ≡ n = omega (arith, w.within) in rw (e, take-take n n history (omega arith)) at (w.read runs s)
-
-pub read_all : (pairs history lengths starts steps next catalogue seconds dep : List ℕ) (n q : ℕ) → ReadUpTo pairs (take n history) lengths starts steps next catalogue seconds dep n q → n ≤ q
-    → ReadFromCodes pairs (take n history) lengths steps catalogue seconds dep
-read_all pairs history lengths starts steps next catalogue seconds dep n q w l = record { read = all_up_to _ history lengths starts steps next n q w l }
-
-pub links_all : (pairs history lengths starts steps next catalogue seconds links : List ℕ) (n q : ℕ) → LinkedUpTo pairs (take n history) lengths starts steps next catalogue seconds links n q → n ≤ q
-    → LinkedFromCodes pairs (take n history) lengths steps catalogue seconds links
-links_all pairs history lengths starts steps next catalogue seconds links n q w l = record { read = all_up_to _ history lengths starts steps next n q w l }
 
 next_taken : (l : List ℕ) (q : ℕ) → q < length l → take (q + 1) l ≡ take q l ++ get_or l q 0 ∷ []
 next_taken l q i = let e : q + 1 - 1 ≡ q = omega arith in rw e at (take_last l (q + 1) (omega arith) (omega arith))
@@ -123,13 +89,7 @@ module _ (P : List (List Step) → List ℕ → Type 0) (history lengths starts 
   step_inside =
       omega (arith, is_step, is_start, counted, count_take_le (take n history) r (suc q), w.room.within r, w.room.total, sum_take lengths r, sum_take_le lengths (suc r))
 
-  pub read_fits : Fits w8 (c + 1)
-  read_fits = record { fits = omega (arith, step_inside) }
-
   module _ (s : ℕ) (es : s ≡ c) where
-    pub read_index : s < step_limit
-    read_index = rw es step_inside
-
     more_up_to : (Q : List (List Step) → List ℕ → Type 0) (x : StepValue) → StepAt steps s x
         → ((runs : List (List Step)) (h : List ℕ) → length h ≡ q → step_of runs r (count h r) ≡ as_step x → P runs h → Q runs (h ++ r ∷ []))
         → UpTo Q (take n history) lengths starts steps (set next r (c + 1)) n (q + 1)
@@ -153,33 +113,16 @@ module _ (P : List (List Step) → List ℕ → Type 0) (history lengths starts 
         next_at k hk (yes e) = rw e (get_or-set_same next r (c + 1) 0 (omega (arith, small, w.size)) ∙ omega (arith, is_step, counted))
         next_at k hk (no m) = get_or-set_other next r k (c + 1) 0 m ∙ w.next_are.at k hk ∙ ap (λ (x : ℕ). get_or starts k 0 + x) (sym (count_take_ne (take n history) k q (λ e. m (sym e ∙ is_run))))
 
-module _ (pairs history lengths starts steps next catalogue seconds rows : List ℕ) (n q : ℕ) (hs : HistoryOf history n) (i : q < n)
-    (r c : ℕ) (er : r ≡ get_or history q 0) (ec : c ≡ get_or next r 0) (s : ℕ) (es : s ≡ c) (x : StepValue) (ex : StepAt steps s x) (catalogue' seconds' rows' : List ℕ) where
-  pub read_more : ReadUpTo pairs (take n history) lengths starts steps next catalogue seconds rows n q → StepRead pairs catalogue catalogue' seconds seconds' rows rows' q r (as_step x)
-      → ReadUpTo pairs (take n history) lengths starts steps (set next r (c + 1)) catalogue' seconds' rows' n (q + 1)
-  read_more w t = more_up_to _ history lengths starts steps next n q hs w i r c er ec s es _ x ex t.read
+-- what a step has left, and one step more
+module _ (history lengths starts steps next : List ℕ) (n q : ℕ) (hs : HistoryOf history n) (i : q < n) where
+  pub next_left : (P : List (List Step) → List ℕ → Type 0) → UpTo P (take n history) lengths starts steps next n q → get_or next (get_or history q 0) 0 < step_limit
+  next_left P w = step_inside P history lengths starts steps next n q hs w i _ _ refl refl
 
-  pub links_more : LinkedUpTo pairs (take n history) lengths starts steps next catalogue seconds rows n q → StepLinked pairs catalogue catalogue' seconds seconds' rows rows' q r (as_step x)
-      → LinkedUpTo pairs (take n history) lengths starts steps (set next r (c + 1)) catalogue' seconds' rows' n (q + 1)
-  links_more w t = more_up_to _ history lengths starts steps next n q hs w i r c er ec s es _ x ex t.read
+  module _ (next' : List ℕ) (r : ℕ) (x : StepValue) (k : NextTaken history steps next next' q r x) (pairs catalogue seconds rows catalogue' seconds' rows' : List ℕ) where
+    pub read_more : ReadUpTo pairs (take n history) lengths starts steps next catalogue seconds rows n q → StepRead pairs catalogue catalogue' seconds seconds' rows rows' q r (as_step x)
+        → ReadUpTo pairs (take n history) lengths starts steps next' catalogue' seconds' rows' n (q + 1)
+    read_more w t = rw k.one_more (more_up_to _ history lengths starts steps next n q hs w i r _ k.of_run.is refl _ refl _ x k.step t.read)
 
--- ---- the step of a code
-
--- a code of the table is below the limit
-pub code_low : (steps : List ℕ) (i : ℕ) → Small code_limit steps → get_or steps i 0 < code_limit
-code_low steps i s = s.small i
-
--- the step of a code is in range
-touch_low : (c : ℕ) → c < touch_limit → (touch_coded c).kind < kind_limit
-touch_low c l = omega arith
-
-coded_low : (c : ℕ) → c < code_limit → KindsLow (step_coded c)
-coded_low c l = record { low = go (c / touch_limit) (omega arith) }
-  where
-    go : (n : ℕ) → n < touch_limit + 1 → (t : Touch) → TouchOf (step_with (touch_coded (c % touch_limit)) n) t → t.kind < kind_limit
-    go zero h t only = touch_low (c % touch_limit) (omega arith)
-    go (suc n) h t first = touch_low (c % touch_limit) (omega arith)
-    go (suc n) h t second = touch_low n (omega arith)
-
-pub step_found : (steps : List ℕ) (i : ℕ) (x : StepValue) → Small code_limit steps → as_step x ≡ step_coded (get_or steps i 0) → StepAt steps i x
-step_found steps i x s e = record { is = e; kinds = rw e (coded_low (get_or steps i 0) (s.small i)) }
+    pub links_more : LinkedUpTo pairs (take n history) lengths starts steps next catalogue seconds rows n q → StepLinked pairs catalogue catalogue' seconds seconds' rows rows' q r (as_step x)
+        → LinkedUpTo pairs (take n history) lengths starts steps next' catalogue' seconds' rows' n (q + 1)
+    links_more w t = rw k.one_more (more_up_to _ history lengths starts steps next n q hs w i r _ k.of_run.is refl _ refl _ x k.step t.read)

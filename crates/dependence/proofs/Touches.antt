@@ -5,7 +5,7 @@ use mathlib.Core.Bool.{Bool, true, false, ◌&&◌}
 use mathlib.Core.List.{List}
 use borrow.Author.Tests.{ltb-true, lt-ltb}
 use lib.Dec.{ltb}
-use Rattle.bits.specs.Table.{row_bits, bit_at, union, Alone, Replaced}
+use Rattle.bits.specs.Table.{bit_at, union, Replaced}
 use Rattle.theory.specs.Answers.{Answers}
 use Rattle.theory.specs.Deck.{Touch, Step, single, transfer}
 use Rattle.theory.specs.Transfers.{TouchOf, only, first, second}
@@ -15,7 +15,7 @@ use Rattle.book.specs.declared.Touch.{Touch as TouchValue}
 use Rattle.book.specs.declared.Step.{Step as StepValue}
 use Rattle.book.specs.declared.Step.TheVariants.{Single, Transfer}
 use Rattle.dependence.specs.Dependence.{KindsLow}
-use Rattle.dependence.specs.Inner.Reading.{TouchJoined, StepEntered, StepFinds, ConflictsWith}
+use Rattle.dependence.specs.Inner.Reading.{StepFinds, ConflictsWith}
 use Rattle.dependence.proofs.Catalogue.{transfer_finds}
 
 first_true : (a b : Bool) → (a && b) ≡ true → a ≡ true
@@ -44,23 +44,12 @@ module _ (x : StepValue) (t : TouchValue) (e : x ≡ Single t) where
   pub single_low : KindsLow (as_step x) → t.kind < kind_limit
   single_low k = let k' : KindsLow (single (as_touch t)) = rw e at k in k'.low (as_touch t) only
 
-  pub single_entered : (pairs s s' v column : List ℕ) (q r : ℕ) → q < row_bits → Alone q column → TouchJoined pairs s s' column r (as_touch t)
-      → StepEntered pairs s s' v v q r (as_step x)
-  single_entered pairs s s' v column q r h c a = rw e (record { first = a.place q h c; second = refl })
-
-  pub single_finds : (s v m : List ℕ) → StepFinds (ConflictsWith (single (as_touch t))) s v m → StepFinds (ConflictsWith (as_step x)) s v m
-  single_finds s v m f = rw e f
-
 module _ (x : StepValue) (t u : TouchValue) (e : x ≡ Transfer t u) where
   pub first_low : KindsLow (as_step x) → t.kind < kind_limit
   first_low k = let k' : KindsLow (transfer (as_touch t) (as_touch u)) = rw e at k in k'.low (as_touch t) first
 
   pub second_low : KindsLow (as_step x) → u.kind < kind_limit
   second_low k = let k' : KindsLow (transfer (as_touch t) (as_touch u)) = rw e at k in k'.low (as_touch u) second
-
-  pub transfer_entered : (pairs s s' v v' column : List ℕ) (q r : ℕ) → q < row_bits → Alone q column → TouchJoined pairs s s' column r (as_touch t)
-      → TouchJoined pairs v v' column 0 (as_touch u) → StepEntered pairs s s' v v' q r (as_step x)
-  transfer_entered pairs s s' v v' column q r h c a b = rw e (record { first = a.place q h c; second = b.place q h c })
 
   pub both_find : (s v m n o : List ℕ) → StepFinds (ConflictsWith (single (as_touch t))) s v m → StepFinds (ConflictsWith (single (as_touch u))) s v n
       → Replaced m o 0 (union (bit_at m 0) (bit_at n 0)) → StepFinds (ConflictsWith (as_step x)) s v o

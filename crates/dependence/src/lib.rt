@@ -1,7 +1,7 @@
 // Dependence, step by step as a history is read, and direct dependence by runs.
 #![tactic(auto)]
 
-ghost use Rattle.std.specs.Prelude.{◌≡◌, ◌+◌, ◌*◌, ◌<◌, ◌≤◌, length, take};
+ghost use Rattle.std.specs.Prelude.{◌≡◌, ◌+◌, ◌*◌, ◌<◌, ◌≤◌, length, take, get_or};
 ghost use Rattle.theory.specs.Deck.{single, listed};
 ghost use Rattle.theory.specs.Relative.{Depends};
 ghost use Rattle.theory.specs.Lists.{sum};
@@ -12,10 +12,10 @@ ghost use Rattle.dependence.specs.Marks.{Marks};
 ghost use Rattle.dependence.specs.Catalogue.{base, run_part, parts};
 ghost use Rattle.dependence.specs.Dependence.{Blank, KindsLow, StepRead, StepAnswered};
 ghost use Rattle.dependence.specs.Inner.Reading.{PartRow, HomesAs, OtherHomeRow, PartsEntered, KindsJoined, KindJoined, TouchJoined, StepEntered, Finds, TouchConflicts, StepFinds, ConflictsWith, Linked, RowFrom, ReadFromCodes, StepLinked, LinkedFromCodes};
-ghost use Rattle.dependence.specs.Inner.Tables.{Small, HistoryOf, NumberAt, StepAt, Starts, RunsRoom, RunRows, RunLinked};
+ghost use Rattle.dependence.specs.Inner.Tables.{Small, HistoryOf, NumberAt, StepAt, NextTaken, Starts, RunsRoom, RunRows, RunLinked};
 ghost use Rattle.bits.specs.Table.{RowCopied};
 
-use bits::{Found, Row, Table};
+use bits::{Row, Table};
 use book::{Book, Step, Touch};
 
 // Runs and the digits of a position are below this.
@@ -32,11 +32,6 @@ const PARTS: usize = 6;
 
 // Behind the rows of the parts a catalogue has one for each kind, of the places whose kind is paired with it.
 const PART_ROWS: usize = PARTS * BASE;
-
-// This has no effect: its contract says how long the array is, for functions that hold it by `&mut`.
-fn sized_by_run(t: [u8; Book::RUNS])
-    ensures { length t ≡ run_limit }
-{}
 
 // The run of place p.
 pub fn run_of(history: &[u8; Book::STEPS], p: usize) -> usize
@@ -59,13 +54,10 @@ fn starts(lengths: &[u8; Book::RUNS], t: &mut [u8; Book::RUNS])
     requires { sum lengths.now ≤ step_limit }
     ensures { Starts lengths.now t.new }
 {
-    let mut s: u8 = 0;
-    let mut r = 0;
-    while r < Book::RUNS {
-        sized_by_run(*t);
+    let mut s = 0;
+    for (r, &length) in lengths.iter().enumerate() {
         t[r] = s;
-        s = s + lengths[r];
-        r += 1;
+        s += length;
     }
 }
 
@@ -81,7 +73,7 @@ fn is_listed(pairs: &[u8; Book::PAIRS_SIZE], a: usize, b: usize) -> bool
 fn homes(x: Touch) -> usize
     ensures { HomesAs (as_touch x) result }
 {
-    if x.position == Book::HOME { 1 } else { 0 }
+    (x.position == Book::HOME) as usize
 }
 
 // The catalogue's row of the part k of a touch of run r.
@@ -90,22 +82,15 @@ fn part_row(r: usize, x: Touch, k: usize) -> usize
     ensures { PartRow r (as_touch x) k result }
 {
     let position = x.position as usize;
-    if k == 0 {
-        return k * BASE + position % BASE;
-    }
-    if k == 1 {
-        return k * BASE + position / 16 % BASE;
-    }
-    if k == 2 {
-        return k * BASE + position / 256 % BASE;
-    }
-    if k == 3 {
-        return k * BASE + position / 4096;
-    }
-    if k == RUN_PART {
-        return k * BASE + r;
-    }
-    k * BASE + homes(x)
+    let part = match k {
+        0 => position % BASE,
+        1 => position / 16 % BASE,
+        2 => position / 256 % BASE,
+        3 => position / 4096,
+        RUN_PART => r,
+        _ => homes(x),
+    };
+    k * BASE + part
 }
 
 // The catalogue's row of the places that home if x does not, and of those that do not if x does.
@@ -120,10 +105,8 @@ fn enter_parts(catalogue: &mut Table, column: &Row, r: usize, x: Touch)
     requires { r < run_limit }
     ensures { PartsEntered catalogue.old catalogue.new column.now r (as_touch x) parts }
 {
-    let mut k = 0;
-    while k < PARTS {
+    for k in 0..PARTS {
         bits::join(catalogue, part_row(r, x, k), column);
-        k += 1;
     }
 }
 
@@ -148,10 +131,8 @@ fn enter_kinds(pairs: &[u8; Book::PAIRS_SIZE], catalogue: &mut Table, column: &R
     requires { kind < kind_limit }
     ensures { KindsJoined pairs.now catalogue.old catalogue.new column.now kind kind_limit }
 {
-    let mut k = 0;
-    while k < Book::KINDS {
+    for k in 0..Book::KINDS {
         enter_kind(pairs, catalogue, column, kind, k);
-        k += 1;
     }
 }
 
@@ -197,10 +178,8 @@ fn conflicting(catalogue: &Table, x: Touch) -> Row
 {
     let other = other_home_row(x);
     let mut m = bits::row_of(catalogue, PART_ROWS + book::wide(x.kind));
-    let mut k = 0;
-    while k < DIGIT_PARTS {
+    for k in 0..DIGIT_PARTS {
         bits::keep_either(&mut m, catalogue, part_row(0, x, k), other);
-        k += 1;
     }
     m
 }
@@ -256,12 +235,12 @@ fn dependence_row(dep: &Table, linked: &Row) -> Row
     let mut end = bits::ROW_BITS;
     while end > 0 {
         match bits::last_outside(linked, &m) {
-            Found::At(p) => {
+            Some(p) => {
                 bits::add_row(&mut m, dep, p);
                 bits::add(&mut m, p);
                 end = p;
             }
-            Found::Nothing => {
+            None => {
                 return m;
             }
         }
@@ -332,6 +311,23 @@ pub fn read_step(
     false
 }
 
+// The run of place q and the step that is done there, the next of the run.
+fn next_step(
+    history: &[u8; Book::STEPS],
+    steps: &[u64; Book::STEPS],
+    next: &mut [u8; Book::RUNS],
+    q: usize,
+) -> (usize, Step)
+    requires in_range { (q < step_limit) × Small run_limit history.now × Small code_limit steps.now }
+    requires left { get_or next.old (get_or history.now q 0) 0 < step_limit }
+    ensures { NextTaken history.now steps.now next.old next.new q result.0 result.1 }
+{
+    let r = run_of(history, q);
+    let i = next[r];
+    next[r] = i + 1;
+    (r, step_at(steps, book::wide(i)))
+}
+
 // Reads the first n steps of a history, one by one, into tables that mark nothing yet.
 pub fn read_steps(
     history: &[u8; Book::STEPS],
@@ -349,40 +345,38 @@ pub fn read_steps(
     // The next step of each run.
     let mut next = [0u8; Book::RUNS];
     starts(lengths, &mut next);
-    sized_by_run(next);
-    let mut q = 0;
-    while q < n {
-        let r = run_of(history, q);
-        let i = next[r];
-        let x = step_at(steps, book::wide(i));
-        next[r] = i + 1;
+    for q in 0..n {
+        let (r, x) = next_step(history, steps, &mut next, q);
         read_in_range(pairs, q, r, x, catalogue, seconds, dep);
-        q += 1;
     }
 }
 
-// The dependence table of the book's history: bit p of row q where q depends on p.
-pub fn dependences(b: Book, dep: &mut Table)
-    requires { Valid b }
-    ensures { Marks (Depends (conflict_of (contents_of b)) (contents_of b).history) dep.new }
+// The dependence table of a lent book's history: bit p of row q where q depends on p.
+pub fn dependences_lent(b: &Book, dep: &mut Table)
+    requires { Valid b.now }
+    ensures { Marks (Depends (conflict_of (contents_of b.now)) (contents_of b.now).history) dep.new }
 {
-    let history = b.history;
-    let lengths = b.lengths;
-    let steps = b.steps;
-    let pairs = b.pairs;
     *dep = [0; bits::TABLE_WORDS];
     let mut catalogue = [0; bits::TABLE_WORDS];
     let mut seconds = [0; bits::TABLE_WORDS];
     read_steps(
-        &history,
+        &b.history,
         b.done,
-        &lengths,
-        &steps,
-        &pairs,
+        &b.lengths,
+        &b.steps,
+        &b.pairs,
         &mut catalogue,
         &mut seconds,
         dep,
     );
+}
+
+// The same of a book by value.
+pub fn dependences(b: Book, dep: &mut Table)
+    requires { Valid b }
+    ensures { Marks (Depends (conflict_of (contents_of b)) (contents_of b).history) dep.new }
+{
+    dependences_lent(&b, dep);
 }
 
 // Reads the first n steps of a history, one by one, for the rows of the runs, into tables that mark nothing yet.
@@ -402,41 +396,40 @@ fn link_steps(
     // The next step of each run.
     let mut next = [0u8; Book::RUNS];
     starts(lengths, &mut next);
-    sized_by_run(next);
-    let mut q = 0;
-    while q < n {
-        let r = run_of(history, q);
-        let i = next[r];
-        let x = step_at(steps, book::wide(i));
-        next[r] = i + 1;
+    for q in 0..n {
+        let (r, x) = next_step(history, steps, &mut next, q);
         link_in_range(pairs, q, r, x, catalogue, seconds, links);
-        q += 1;
     }
 }
 
-// The runs' rows of the book's history: bit p of row r where some step of run r directly depends on p; and the catalogue, for the places of each run.
+// The runs' rows of a lent book's history: bit p of row r where some step of run r directly depends on p; and the catalogue, for the places of each run.
+pub fn run_links_lent(b: &Book, catalogue: &mut Table, links: &mut Table)
+    requires { Valid b.now }
+    ensures run_rows { RunRows (contents_of b.now).history b.now.done catalogue.new }
+    ensures marks { Marks (RunLinked (conflict_of (contents_of b.now)) (contents_of b.now).history) links.new }
+{
+    *catalogue = [0; bits::TABLE_WORDS];
+    *links = [0; bits::TABLE_WORDS];
+    let mut seconds = [0; bits::TABLE_WORDS];
+    link_steps(
+        &b.history,
+        b.done,
+        &b.lengths,
+        &b.steps,
+        &b.pairs,
+        catalogue,
+        &mut seconds,
+        links,
+    );
+}
+
+// The same of a book by value.
 pub fn run_links(b: Book, catalogue: &mut Table, links: &mut Table)
     requires { Valid b }
     ensures run_rows { RunRows (contents_of b).history b.done catalogue.new }
     ensures marks { Marks (RunLinked (conflict_of (contents_of b)) (contents_of b).history) links.new }
 {
-    let history = b.history;
-    let lengths = b.lengths;
-    let steps = b.steps;
-    let pairs = b.pairs;
-    *catalogue = [0; bits::TABLE_WORDS];
-    *links = [0; bits::TABLE_WORDS];
-    let mut seconds = [0; bits::TABLE_WORDS];
-    link_steps(
-        &history,
-        b.done,
-        &lengths,
-        &steps,
-        &pairs,
-        catalogue,
-        &mut seconds,
-        links,
-    );
+    run_links_lent(&b, catalogue, links);
 }
 
 // The places of run r.

@@ -8,7 +8,7 @@ use mathlib.Core.Path.{◌≡◌, refl, sym, ap, ◌∙◌}
 use mathlib.Core.Logic.{◌⊎◌, inl, inr, ◌≢◌}
 use mathlib.Core.Bool.{Bool, true, false, ◌||◌, not}
 use mathlib.Core.List.{List}
-use lib.ListN.{length, get_or, take, replicate}
+use lib.ListN.{length, get_or, replicate}
 use lib.Dec.{eqb}
 use borrow.Author.Tests.{eqb-true, eq-eqb, not-true, not-false}
 use Rattle.theory.specs.Graph.{ArcI, ArcD, ArcF, ArcB, Arc, arc_I, arc_D, arc_F, arc_B, Cycle}
@@ -18,8 +18,8 @@ use Rattle.bits.specs.Table.{row_bits, bit_at, Marked}
 use Rattle.theory.specs.Answers.{Answers}
 use Rattle.theory.proofs.Answered.{answer_yes, answer_no, refute, false_true}
 use Rattle.names.specs.Names.{names_of}
-use Rattle.dependence.specs.Inner.Tables.{HistoryOf}
-use Rattle.graph.specs.Inner.Arcs.{TablesOf}
+use Rattle.graph.specs.Inner.Arcs.{TablesIn, done}
+use Rattle.graph.specs.declared.graph.Graph.{Graph}
 use Rattle.names.specs.Inner.Tables.{NamesBy}
 use Rattle.names.specs.declared.ArcNames.{ArcNames}
 use Rattle.dependence.proofs.Counting.{history_length}
@@ -61,22 +61,23 @@ module _ (conflict : ℕ → ℕ → ℕ → ℕ → Bool) (unit : ℕ → ℕ �
 
 -- ---- the next place of a walk
 
-module _ (history : List ℕ) (n : ℕ) (w : HistoryOf history n) (dep firsts lasts seen : List ℕ) (before x : ℕ) where
-  pub beyond : n ≤ x → FollowsBy (take n history) dep firsts lasts seen before x false
-  beyond k = record { answers = λ a. answer_no (λ f. lt_irrefl n (omega (arith, arc_target a.conflict a.unit f.arc, history_length w))) }
+module _ (g : Graph) (seen : List ℕ) (before x : ℕ) where
+  pub beyond : g.n ≤ x → FollowsBy g seen before x false
+  beyond k = record { answers = λ a. answer_no (λ f. lt_irrefl g.n (omega (arith, arc_target a.conflict a.unit f.arc, history_length g.stored))); inside = λ e. absurd (false_true e) }
 
   module _ (t : Bool) (test : t ≡ eqb (bit_at seen 0 x) 1) where
-    pub repeated : t ≡ true → FollowsBy (take n history) dep firsts lasts seen before x false
-    repeated e = record { answers = λ a. answer_no (λ f. f.fresh (eqb-true (bit_at seen 0 x) 1 (sym test ∙ e))) }
+    pub repeated : t ≡ true → FollowsBy g seen before x false
+    repeated e = record { answers = λ a. answer_no (λ f. f.fresh (eqb-true (bit_at seen 0 x) 1 (sym test ∙ e))); inside = λ e. absurd (false_true e) }
 
-    pub followed : t ≡ false → (names : ArcNames) → NamesBy (take n history) dep firsts lasts before x names → (r : Bool) → r ≡ any_of names → FollowsBy (take n history) dep firsts lasts seen before x r
-    followed e names by r is = record {
+    pub followed : x < g.n → t ≡ false → (names : ArcNames) → NamesBy g before x names → (r : Bool) → r ≡ any_of names → FollowsBy g seen before x r
+    followed i e names by r is = record {
       answers = λ a.
-          let s : Answers (Arc a.conflict a.unit (take n history) before x) r = rw (is, by.by a) (some_name a.conflict a.unit (take n history) before x) in
+          let s : Answers (Arc a.conflict a.unit (done g) before x) r = rw (is, by.by a) (some_name a.conflict a.unit (done g) before x) in
           record {
             sound = λ y. record { fresh = λ b. false_true (sym e ∙ test ∙ eq-eqb (bit_at seen 0 x) 1 b); arc = s.sound y };
             complete = λ f. s.complete f.arc;
           };
+      inside = λ _. i;
     }
 
 -- ---- the walk
@@ -91,43 +92,44 @@ cycle_arc : {conflict : ℕ → ℕ → ℕ → ℕ → Bool} {unit : ℕ → �
 cycle_arc w zero i = w.back
 cycle_arc w (suc k) i = w.next k i
 
-pub record WalkedUpTo (h dep firsts lasts c seen : List ℕ) (i before : ℕ) : Type 0 where
+pub record WalkedUpTo (g : Graph) (c seen : List ℕ) (i before : ℕ) : Type 0 where
   pub met : Collected seen (λ k. get_or c k 0) i
-  pub distinct : (j k : ℕ) → j < k → k < i → get_or c j 0 ≢ get_or c k 0
-  pub arcs : (a : TablesOf h dep firsts lasts) (k : ℕ) → k < i → Arc a.conflict a.unit h (place_before c k) (get_or c k 0)
+  pub distinct : TablesIn g → (j k : ℕ) → j < k → k < i → get_or c j 0 ≢ get_or c k 0
+  pub arcs : (a : TablesIn g) (k : ℕ) → k < i → Arc a.conflict a.unit (done g) (place_before c k) (get_or c k 0)
+  pub inside : (k : ℕ) → k < i → get_or c k 0 < g.n
   pub before_is : before ≡ place_before c i
 
-module _ (h dep firsts lasts c : List ℕ) where
-  pub too_short : length c < 2 → CycleBy h dep firsts lasts c false
+module _ (g : Graph) (c : List ℕ) where
+  pub too_short : length c < 2 → CycleBy g c false
   too_short k = record { answers = λ a. answer_no (λ y. lt_irrefl 0 (omega (arith, y.least))) }
 
-  pub walked_none : (words before : ℕ) → before ≡ get_or c (length c - 1) 0 → WalkedUpTo h dep firsts lasts c (replicate words 0) 0 before
+  pub walked_none : (words before : ℕ) → before ≡ get_or c (length c - 1) 0 → WalkedUpTo g c (replicate words 0) 0 before
   walked_none words before is = record {
     met = collected_none words _;
-    distinct = λ j k l i. absurd (not-suc-le-zero i);
+    distinct = λ a j k l i. absurd (not-suc-le-zero i);
     arcs = λ a k i. absurd (not-suc-le-zero i);
+    inside = λ k i. absurd (not-suc-le-zero i);
     before_is = is;
   }
 
-module _ (history : List ℕ) (n : ℕ) (w : HistoryOf history n) (dep firsts lasts c : List ℕ) where
-  pub too_long : n < length c → CycleBy (take n history) dep firsts lasts c false
-  too_long k = record { answers = λ a. answer_no (λ y. lt_irrefl n (omega (arith, y.most, history_length w))) }
+  pub too_long : g.n < length c → CycleBy g c false
+  too_long k = record { answers = λ a. answer_no (λ y. lt_irrefl g.n (omega (arith, y.most, history_length g.stored))) }
 
-  module _ (seen : List ℕ) (i before : ℕ) (u : WalkedUpTo (take n history) dep firsts lasts c seen i before) where
-    pub walked_all : 2 ≤ length c → length c ≤ n → length c ≤ i → CycleBy (take n history) dep firsts lasts c true
+  module _ (seen : List ℕ) (i before : ℕ) (u : WalkedUpTo g c seen i before) where
+    pub walked_all : 2 ≤ length c → length c ≤ g.n → length c ≤ i → CycleBy g c true
     walked_all two few le = record {
       answers = λ a. answer_yes (record {
         least = two;
-        most = rw (history_length w) few;
-        distinct = λ j k l x. u.distinct j k l (omega arith);
+        most = rw (history_length g.stored) few;
+        distinct = λ j k l x. u.distinct a j k l (omega arith);
         next = λ k x. u.arcs a (suc k) (omega arith);
         back = u.arcs a 0 (omega arith);
       });
     }
 
-    module _ (inside : i < length c) (x : ℕ) (is : x ≡ get_or c i 0) (t : Bool) (f : FollowsBy (take n history) dep firsts lasts seen before x t) where
+    module _ (inside : i < length c) (x : ℕ) (is : x ≡ get_or c i 0) (t : Bool) (f : FollowsBy g seen before x t) where
       -- on a cycle the next place follows
-      pub not_followed : not t ≡ true → CycleBy (take n history) dep firsts lasts c false
+      pub not_followed : not t ≡ true → CycleBy g c false
       not_followed e = record {
         answers = λ a. answer_no (λ y.
             let arc = cycle_arc y i inside in
@@ -137,29 +139,30 @@ module _ (history : List ℕ) (n : ℕ) (w : HistoryOf history n) (dep firsts la
             }));
       }
         where
-          small : get_or c i 0 < length (take n history) → x < row_bits
-          small k = omega (arith, is, w.within, history_length w)
+          small : get_or c i 0 < length (done g) → x < row_bits
+          small k = omega (arith, is, g.stored.within, history_length g.stored)
 
-      module _ (a : TablesOf (take n history) dep firsts lasts) (e : not t ≡ false) where
-        -- a place with an arc to it is one of the history's
-        pub followed_small : x < row_bits
-        followed_small = omega (arith, arc_target a.conflict a.unit ((f.answers a).sound (not-false t e)).arc, w.within, history_length w)
-
-        pub walked_more : (seen' : List ℕ) → Marked seen seen' 0 x → WalkedUpTo (take n history) dep firsts lasts c seen' (i + 1) x
+      module _ (e : not t ≡ false) where
+        pub walked_more : (seen' : List ℕ) → Marked seen seen' 0 x → WalkedUpTo g c seen' (i + 1) x
         walked_more seen' m = record {
-          met = collected_more seen _ i u.met seen' (λ k j. omega (arith, arc_target a.conflict a.unit (u.arcs a k j), w.within, history_length w)) (rw is at m);
-          distinct = λ j k b d. distinct j k b (below_suc (rw (← add-one i) d));
+          met = collected_more seen _ i u.met seen' (λ k j. omega (arith, u.inside k j, g.stored.within)) (rw is at m);
+          distinct = λ a j k b d. distinct a j k b (below_suc (rw (← add-one i) d));
           arcs = λ a k j. arcs a k (below_suc (rw (← add-one i) j));
+          inside = λ k j. inside_at k (below_suc (rw (← add-one i) j));
           before_is = rw (add-one i) is;
         }
           where
-            distinct : (j k : ℕ) → j < k → (k ≡ i) ⊎ (k < i) → get_or c j 0 ≢ get_or c k 0
-            distinct j k b (inr d) q = u.distinct j k b d q
-            distinct j k b (inl d) q =
+            distinct : (a : TablesIn g) (j k : ℕ) → j < k → (k ≡ i) ⊎ (k < i) → get_or c j 0 ≢ get_or c k 0
+            distinct a j k b (inr d) q = u.distinct a j k b d q
+            distinct a j k b (inl d) q =
                 let z : bit_at seen 0 (get_or c j 0) ≡ 1 = u.met.complete j (omega arith) in
                 let v : get_or c j 0 ≡ x = q ∙ ap (λ (y : ℕ). get_or c y 0) d ∙ sym is in
                 ((f.answers a).sound (not-false t e)).fresh (rw v at z)
 
-            arcs : (a : TablesOf (take n history) dep firsts lasts) (k : ℕ) → (k ≡ i) ⊎ (k < i) → Arc a.conflict a.unit (take n history) (place_before c k) (get_or c k 0)
+            arcs : (a : TablesIn g) (k : ℕ) → (k ≡ i) ⊎ (k < i) → Arc a.conflict a.unit (done g) (place_before c k) (get_or c k 0)
             arcs a k (inl q) = rw (q, ← is, ← u.before_is) ((f.answers a).sound (not-false t e)).arc
             arcs a k (inr j) = u.arcs a k j
+
+            inside_at : (k : ℕ) → (k ≡ i) ⊎ (k < i) → get_or c k 0 < g.n
+            inside_at k (inl q) = rw (q, ← is) (f.inside (not-false t e))
+            inside_at k (inr j) = u.inside k j

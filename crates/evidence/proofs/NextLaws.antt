@@ -1,55 +1,36 @@
--- The search for the next step of a run: no place of it so far is left.
-use Prim.Native.Nat.{ℕ, ◌+◌, ◌≤◌, ◌<◌}
-use native.Mathlib.Nat.{not-suc-le-zero}
+-- The first place of a run that is left, not taken yet, is that of its next step.
+use Rattle.std.specs.Prelude.{Option, Some, None, MatchOption, ◌≢◌}
+use Prim.Native.Nat.{ℕ, ◌≤◌, ◌<◌, zero-le}
 use native.Mathlib.Omega.{arith}
-use native.Mathlib.Numerals.{add-one}
-use mathlib.Core.Path.{◌≡◌, sym, ap, ◌∙◌, subst}
-use mathlib.Core.Logic.{◌⊎◌, inl, inr}
-use mathlib.Core.Bool.{Bool, true, false, not}
+use mathlib.Core.Path.{◌≡◌, subst}
 use mathlib.Core.List.{List}
-use lib.ListN.{get_or}
-use lib.Dec.{eqb}
-use borrow.Author.Tests.{eqb-true, eqb-false, not-true, not-false}
-use Rattle.theory.proofs.Finite.{below_suc}
+use lib.ListN.{length, get_or}
 use Rattle.bits.specs.Table.{bit_at}
-use Rattle.bits.specs.declared.Found.{Found}
-use Rattle.bits.specs.declared.Found.TheVariants.{At, Nothing}
 use Rattle.bits.proofs.Store.{bit_at_lt}
 use Rattle.evidence.specs.Inner.Tables.{NextAt, NoNext, NextStep}
 
-module _ (history taken : List ℕ) where
-  pub none_left : (r : ℕ) → NoNext history taken 0 r
-  none_left r = record { all = λ k i. absurd (not-suc-le-zero i) }
+-- the place p, if it is one of run r, is taken
+abbrev pub NotLeft : List ℕ → List ℕ → ℕ → ℕ → Type 0
+NotLeft history taken r p = get_or history p 0 ≡ r → bit_at taken 0 p ≡ 1
 
-  module _ (p r : ℕ) (u : NoNext history taken p r) where
-    pub none_left_all : (n : ℕ) → n ≤ p → NoNext history taken n r
-    none_left_all n le = record { all = λ k i. u.all k (omega arith) }
+-- p is a place of run r that is not taken
+abbrev pub Left : List ℕ → List ℕ → ℕ → ℕ → Type 0
+Left history taken r p = (get_or history p 0 ≡ r) × (bit_at taken 0 p ≢ 1)
 
-    more : (get_or history p 0 ≡ r → bit_at taken 0 p ≡ 1) → NoNext history taken (p + 1) r
-    more f = record { all = λ k i. go k (below_suc (rw (← add-one p) i)) }
-      where
-        go : (k : ℕ) → (k ≡ p) ⊎ (k < p) → get_or history k 0 ≡ r → bit_at taken 0 k ≡ 1
-        go k (inr i) e = u.all k i e
-        go k (inl x) e = rw x (f (ap (λ (y : ℕ). get_or history y 0) (sym x) ∙ e))
+pub next_first : (history taken : List ℕ) (r : ℕ) (f : Option ℕ)
+    → MatchOption f ((k : ℕ) → 0 ≤ k → k < length history → NotLeft history taken r k)
+    (λ p. (0 ≤ p) × (p < length history) × Left history taken r p × ((k : ℕ) → 0 ≤ k → k < p → NotLeft history taken r k)) → NextStep history taken r f
+next_first history taken r (Some p) f = record {
+  inside = f.1;
+  runs = f.2.0;
+  untaken = omega (arith, bit_at_lt taken 0 p, f.2.1);
+  first = λ k. f.3 k zero-le;
+}
+next_first history taken r None f = record { all = λ k. f k zero-le }
 
-    pub none_left_other : (get_or history p 0 ≡ r → ⊥) → NoNext history taken (p + 1) r
-    none_left_other ne = more (λ e. absurd (ne e))
+module _ (history taken : List ℕ) (r : ℕ) (f : Option ℕ) (w : NextStep history taken r f) where
+  pub next_at : (p : ℕ) → f ≡ Some p → NextAt history taken r p
+  next_at p e = subst (NextStep history taken r) e w
 
-    module _ (t : Bool) (test : t ≡ eqb (bit_at taken 0 p) 1) where
-      pub none_left_taken : not t ≡ false → NoNext history taken (p + 1) r
-      none_left_taken e = more (λ x. eqb-true (bit_at taken 0 p) 1 (sym test ∙ not-false t e))
-
-      pub next_found : (n : ℕ) → p < n → get_or history p 0 ≡ r → not t ≡ true → NextAt history taken n r p
-      next_found n i runs e = record {
-        inside = i;
-        runs = runs;
-        untaken = omega (arith, bit_at_lt taken 0 p, eqb-false (bit_at taken 0 p) 1 (sym test ∙ not-true t e));
-        first = u.all;
-      }
-
-module _ (history taken : List ℕ) (n r : ℕ) (f : Found) (w : NextStep history taken n r f) where
-  pub next_at : (p : ℕ) → f ≡ At p → NextAt history taken n r p
-  next_at p e = subst (NextStep history taken n r) e w
-
-  pub nothing_left : f ≡ Nothing → NoNext history taken n r
-  nothing_left e = subst (NextStep history taken n r) e w
+  pub nothing_left : f ≡ None → NoNext history taken r
+  nothing_left e = subst (NextStep history taken r) e w

@@ -1,5 +1,6 @@
 -- The walk of the order check: the steps of l are taken one after the other, each the next of its run in h and after all that it depends
 -- on. It comes to the end of l exactly when l is an order of h that agrees with it on every conflicting pair.
+use Rattle.std.specs.Prelude.{Option, Some, None}
 use Prim.Native.Nat.{ℕ, suc, ◌+◌, ◌≤◌, ◌<◌, zero-le}
 use native.Mathlib.Nat.{not-suc-le-zero, le_antisymm, lt_irrefl}
 use native.Mathlib.Omega.{arith}
@@ -10,7 +11,7 @@ use mathlib.Core.Logic.{◌⊎◌, inl, inr, ◌↔◌}
 use mathlib.Core.Bool.{Bool, true, false, not}
 use mathlib.Core.List.{List, [], ◌∷◌, ◌++◌}
 use lib.ListN.{length, get_or, take, replicate}
-use lib.Seq.{get_or-take, take-suc, take_all}
+use lib.Seq.{take-suc, take_all}
 use lib.Dec.{eqb}
 use borrow.Author.Tests.{not-true, not-false}
 use Rattle.theory.specs.History.{suc_if, count, run, ordinal, Same, Order}
@@ -23,15 +24,12 @@ use Rattle.theory.proofs.Places.{Compared, eq_cases, order_length, ordinal_lt, p
 use Rattle.theory.proofs.Steps.{at, Keeps, order_within, at_lt, at_same, same_at, same_sym, dep_lt, dep_inside, dep_at}
 use Rattle.theory.proofs.Decisions.{agrees_keeps}
 use Rattle.theory.proofs.Greedy.{taken_turn}
+use Rattle.book.specs.Format.{step_limit}
 use Rattle.bits.specs.Table.{row_bits, bit_at, Marked, Subset}
-use Rattle.bits.specs.declared.Found.{Found}
-use Rattle.bits.specs.declared.Found.TheVariants.{At, Nothing}
 use Rattle.theory.proofs.Answered.{answer_yes, answer_no, false_true}
 use Rattle.dependence.specs.Marks.{Marks}
-use Rattle.dependence.specs.Inner.Tables.{HistoryOf}
 use Rattle.turns.specs.Inner.Turns.{TakenIn}
 use Rattle.turns.proofs.ReadyPlaces.{none_taken, taken_added}
-use Rattle.dependence.proofs.Counting.{history_length}
 use Rattle.evidence.specs.Inner.Tables.{NextAt, NoNext, NextStep, EquivalentBy}
 use Rattle.evidence.proofs.NextLaws.{next_at, nothing_left}
 
@@ -109,148 +107,140 @@ taken_before h l o a x i k =
 
 -- ---- the walk
 
-module _ (history : List ℕ) (n : ℕ) where
-  abbrev H : List ℕ
-  H = take n history
-
+module _ (h : List ℕ) where
   -- the first a steps of l are steps of the history, each after all that it depends on
   pub record AgreedUpTo (dep l taken : List ℕ) (a : ℕ) : Type 0 where
-    pub places : TakenIn H (take a l) taken
-    pub within : (r : ℕ) → count (take a l) r ≤ count H r
-    pub after : (conflict : ℕ → ℕ → ℕ → ℕ → Bool) → Marks (Depends conflict H) dep → (k x : ℕ) → k < a → Depends conflict H x (at l H k) → Taken H (take k l) x
+    pub places : TakenIn h (take a l) taken
+    pub within : (r : ℕ) → count (take a l) r ≤ count h r
+    pub after : (conflict : ℕ → ℕ → ℕ → ℕ → Bool) → Marks (Depends conflict h) dep → (k x : ℕ) → k < a → Depends conflict h x (at l h k) → Taken h (take k l) x
 
   pub agreed_none : (dep l : List ℕ) (words : ℕ) → AgreedUpTo dep l (replicate words 0) 0
   agreed_none dep l words = record {
-    places = none_taken H words;
+    places = none_taken h words;
     within = λ r. zero-le;
     after = λ conflict m k x i. absurd (not-suc-le-zero i);
   }
 
-  pub other_length : (dep l : List ℕ) → HistoryOf history n → (length l ≡ n → ⊥) → EquivalentBy history n dep l false
-  other_length dep l w ne = record { answers = λ conflict m. answer_no (λ e. ne (order_length H l e.order ∙ history_length w)) }
+  pub other_length : (dep l : List ℕ) → (length l ≡ length h → ⊥) → EquivalentBy h dep l false
+  other_length dep l ne = record { answers = λ conflict m. answer_no (λ e. ne (order_length h l e.order)) }
 
-  module _ (w : HistoryOf history n) (dep l taken : List ℕ) (a : ℕ) (same : length l ≡ n) (u : AgreedUpTo dep l taken a) where
-    pub agreed_all : n ≤ a → EquivalentBy history n dep l true
-    agreed_all le = record { answers = λ conflict m. answer_yes (record { order = o; agrees = (agrees_keeps conflict H l o).0 (keeps conflict m) }) }
+  module _ (few : length h ≤ step_limit) (dep l taken : List ℕ) (a : ℕ) (same : length l ≡ length h) (u : AgreedUpTo dep l taken a) where
+    pub agreed_all : length l ≤ a → EquivalentBy h dep l true
+    agreed_all le = record { answers = λ conflict m. answer_yes (record { order = o; agrees = (agrees_keeps conflict h l o).0 (keeps conflict m) }) }
       where
         all : take a l ≡ l
         all = take_all a l (omega arith)
 
-        o : Order H l
-        o = within_whole H l (λ r. rw all at (u.within r)) (same ∙ sym (history_length w))
+        o : Order h l
+        o = within_whole h l (λ r. rw all at (u.within r)) same
 
-        keeps : (conflict : ℕ → ℕ → ℕ → ℕ → Bool) → Marks (Depends conflict H) dep → Keeps conflict H l
+        keeps : (conflict : ℕ → ℕ → ℕ → ℕ → Bool) → Marks (Depends conflict h) dep → Keeps conflict h l
         keeps conflict m p q k i c =
-            let v = order_within H l o in
-            let j = at_lt H l v q i in
-            let b : at l H (at H l q) ≡ q = same_at l H (at H l q) q i (same_sym (at_same H l v q i)) in
-            let d : Depends conflict H p q = direct (record { before = k; inside = i; linked = inr c }) in
-            place_of_lt_take l (run H p) (ordinal H p) (at H l q) (u.after conflict m (at H l q) p (omega arith) (rw b d))
+            let v = order_within h l o in
+            let j = at_lt h l v q i in
+            let b : at l h (at h l q) ≡ q = same_at l h (at h l q) q i (same_sym (at_same h l v q i)) in
+            let d : Depends conflict h p q = direct (record { before = k; inside = i; linked = inr c }) in
+            place_of_lt_take l (run h p) (ordinal h p) (at h l q) (u.after conflict m (at h l q) p (omega arith) (rw b d))
 
-    module _ (i : a < n) where
-      pub no_next : (f : Found) → NextStep history taken n (get_or l a 0) f → f ≡ Nothing → EquivalentBy history n dep l false
+    module _ (i : a < length l) where
+      pub no_next : (f : Option ℕ) → NextStep h taken (get_or l a 0) f → f ≡ None → EquivalentBy h dep l false
       no_next f found none = record { answers = λ conflict m. answer_no (λ e. go e.order) }
         where
-          t : NoNext history taken n (get_or l a 0)
-          t = nothing_left history taken n (get_or l a 0) f found none
+          t : NoNext h taken (get_or l a 0)
+          t = nothing_left h taken (get_or l a 0) f found none
 
           r : ℕ
           r = get_or l a 0
 
-          go : Order H l → ⊥
+          go : Order h l → ⊥
           go o =
-              let j : count (take a l) r < count H r = omega (arith, o r, count_take_lt l r a (omega arith) refl, count_take_le l r (suc a)) in
-              let s = place_of_spec H r (count (take a l) r) j in
-              let x : ℕ = place_of H r (count (take a l) r) in
-              let xn : x < n = omega (arith, s.0, history_length w) in
-              let y = u.places.sound x s.0 (t.all x xn (sym (get_or-take n history x 0 xn) ∙ s.1)) in
-              let z : ordinal H x < count (take a l) r = rw s.1 at y in
-              lt_irrefl (count (take a l) r) (omega (arith, place_of_ordinal H r (count (take a l) r) j, z))
+              let j : count (take a l) r < count h r = omega (arith, o r, count_take_lt l r a (omega arith) refl, count_take_le l r (suc a)) in
+              let s = place_of_spec h r (count (take a l) r) j in
+              let x : ℕ = place_of h r (count (take a l) r) in
+              let y = u.places.sound x s.0 (t.all x s.0 s.1) in
+              let z : ordinal h x < count (take a l) r = rw s.1 at y in
+              lt_irrefl (count (take a l) r) (omega (arith, place_of_ordinal h r (count (take a l) r) j, z))
 
-      module _ (f : Found) (found : NextStep history taken n (get_or l a 0) f) (q : ℕ) (is : f ≡ At q) where
-        t : NextAt history taken n (get_or l a 0) q
-        t = next_at history taken n (get_or l a 0) f found q is
+      module _ (f : Option ℕ) (found : NextStep h taken (get_or l a 0) f) (q : ℕ) (is : f ≡ Some q) where
+        t : NextAt h taken (get_or l a 0) q
+        t = next_at h taken (get_or l a 0) f found q is
 
-        pub next_place : q < row_bits
-        next_place = omega (arith, t.inside, w.within)
+        run_q : run h q ≡ get_or l a 0
+        run_q = t.runs
 
-        run_q : run H q ≡ get_or l a 0
-        run_q = get_or-take n history q 0 t.inside ∙ t.runs
-
-        inside : q < length H
-        inside = omega (arith, t.inside, history_length w)
+        inside : q < length h
+        inside = t.inside
 
         -- no place of the run before q is left
-        next : Next H (take a l) q
+        next : Next h (take a l) q
         next = record { inside = inside; is = le_antisymm upper lower }
           where
             c : ℕ
-            c = count (take a l) (run H q)
+            c = count (take a l) (run h q)
 
-            lower : c ≤ ordinal H q
-            lower = go (dec_lt (ordinal H q) c)
+            lower : c ≤ ordinal h q
+            lower = go (dec_lt (ordinal h q) c)
               where
-                go : Dec (ordinal H q < c) → c ≤ ordinal H q
+                go : Dec (ordinal h q < c) → c ≤ ordinal h q
                 go (no ne) = omega arith
                 go (yes k) = absurd (zero_one (sym t.untaken ∙ u.places.complete q inside k))
                   where
                     zero_one : ◌≡◌ {A = ℕ} 0 1 → ⊥
                     zero_one e = omega arith
 
-            upper : ordinal H q ≤ c
-            upper = go (dec_lt c (ordinal H q))
+            upper : ordinal h q ≤ c
+            upper = go (dec_lt c (ordinal h q))
               where
-                go : Dec (c < ordinal H q) → ordinal H q ≤ c
+                go : Dec (c < ordinal h q) → ordinal h q ≤ c
                 go (no ne) = omega arith
                 go (yes k) =
-                    let j : c < count H (run H q) = omega (arith, ordinal_lt H q inside) in
-                    let s = place_of_spec H (run H q) c j in
-                    let x : ℕ = place_of H (run H q) c in
-                    let before : x < q = rw (place_of_back H q inside) at (place_of_mono H (run H q) c (ordinal H q) k (ordinal_lt H q inside)) in
-                    let xn : x < n = omega (arith, t.inside) in
-                    let y = u.places.sound x s.0 (t.first x before (sym (get_or-take n history x 0 xn) ∙ s.1 ∙ run_q)) in
-                    let z : ordinal H x < c = rw s.1 at y in
-                    absurd (lt_irrefl c (omega (arith, place_of_ordinal H (run H q) c j, z)))
+                    let j : c < count h (run h q) = omega (arith, ordinal_lt h q inside) in
+                    let s = place_of_spec h (run h q) c j in
+                    let x : ℕ = place_of h (run h q) c in
+                    let before : x < q = rw (place_of_back h q inside) at (place_of_mono h (run h q) c (ordinal h q) k (ordinal_lt h q inside)) in
+                    let y = u.places.sound x s.0 (t.first x before (s.1 ∙ run_q)) in
+                    let z : ordinal h x < c = rw s.1 at y in
+                    absurd (lt_irrefl c (omega (arith, place_of_ordinal h (run h q) c j, z)))
 
         -- l's place a holds the step
-        ordinal_a : ordinal l a ≡ ordinal H q
+        ordinal_a : ordinal l a ≡ ordinal h q
         unfolding ordinal
         ordinal_a = ap (count (take a l)) (sym run_q) ∙ sym next.is
 
-        back : at l H a ≡ q
-        back = ap (place_of H (get_or l a 0)) ordinal_a ∙ ap (λ (s : ℕ). place_of H s (ordinal H q)) (sym run_q) ∙ place_of_back H q inside
+        back : at l h a ≡ q
+        back = ap (place_of h (get_or l a 0)) ordinal_a ∙ ap (λ (s : ℕ). place_of h s (ordinal h q)) (sym run_q) ∙ place_of_back h q inside
 
         pub agreed_more : (r : Bool) → Subset (bit_at dep q) (bit_at taken 0) r → not r ≡ false → (taken' : List ℕ) → Marked taken taken' 0 q → AgreedUpTo dep l taken' (a + 1)
         agreed_more r s yes_all taken' m = record {
-          places = rw snoc (taken_added (omega (arith, history_length w, w.within)) u.places m (λ p j. taken_next H (take a l) q p next j));
-          within = λ r. rw snoc (within_next H (take a l) q next u.within r);
+          places = rw snoc (taken_added few u.places m (λ p j. taken_next h (take a l) q p next j));
+          within = λ r. rw snoc (within_next h (take a l) q next u.within r);
           after = λ conflict marks k x j d. later conflict marks k x d (below_suc (rw (← add-one a) j));
         }
           where
-            snoc : take (a + 1) l ≡ take a l ++ run H q ∷ []
+            snoc : take (a + 1) l ≡ take a l ++ run h q ∷ []
             snoc = let j : a < length l = omega arith in rw (add-one a, run_q) (take-suc l a 0 j)
 
-            small : (p : ℕ) → p < length H → p < row_bits
-            small p j = omega (arith, history_length w, w.within)
+            small : (p : ℕ) → p < length h → p < row_bits
+            small p j = omega (arith, few)
 
-            later : (conflict : ℕ → ℕ → ℕ → ℕ → Bool) → Marks (Depends conflict H) dep → (k x : ℕ) → Depends conflict H x (at l H k) → (k ≡ a) ⊎ (k < a) → Taken H (take k l) x
+            later : (conflict : ℕ → ℕ → ℕ → ℕ → Bool) → Marks (Depends conflict h) dep → (k x : ℕ) → Depends conflict h x (at l h k) → (k ≡ a) ⊎ (k < a) → Taken h (take k l) x
             later conflict marks k x d (inr j) = u.after conflict marks k x j d
             later conflict marks k x d (inl e) =
-                let f : Depends conflict H x (at l H a) = rw (← e) d in
-                let g : Depends conflict H x q = rw back at f in
-                let j : x < length H = omega (arith, dep_lt conflict g, dep_inside conflict g) in
+                let f : Depends conflict h x (at l h a) = rw (← e) d in
+                let g : Depends conflict h x q = rw back at f in
+                let j : x < length h = omega (arith, dep_lt conflict g, dep_inside conflict g) in
                 rw e (u.places.sound x j (s.sound (not-false r yes_all) x (small x j) (marks.complete x q (small x j) (small q inside) g)))
 
-        pub not_after : (r : Bool) → Subset (bit_at dep q) (bit_at taken 0) r → not r ≡ true → EquivalentBy history n dep l false
+        pub not_after : (r : Bool) → Subset (bit_at dep q) (bit_at taken 0) r → not r ≡ true → EquivalentBy h dep l false
         not_after r s not_all = record { answers = λ conflict marks. answer_no (λ e. false_true (sym (not-true r not_all) ∙ s.complete (λ x j b. go conflict marks e x j b))) }
           where
-            same_a : Same H q l a
+            same_a : Same h q l a
             same_a = record { runs = sym run_q; ordinals = ordinal_a }
 
-            go : (conflict : ℕ → ℕ → ℕ → ℕ → Bool) → Marks (Depends conflict H) dep → Equivalent conflict H l → (x : ℕ) → x < row_bits → bit_at dep q x ≡ 1 → bit_at taken 0 x ≡ 1
+            go : (conflict : ℕ → ℕ → ℕ → ℕ → Bool) → Marks (Depends conflict h) dep → Equivalent conflict h l → (x : ℕ) → x < row_bits → bit_at dep q x ≡ 1 → bit_at taken 0 x ≡ 1
             go conflict marks e x j b =
-                let d = marks.sound x q j (omega (arith, t.inside, w.within)) b in
-                let f = dep_lt conflict (dep_at conflict H l (order_within H l e.order) ((agrees_keeps conflict H l e.order).1 e.agrees) d) in
-                let g : at H l q ≡ a = same_at H l q a (omega arith) same_a in
-                let k : x < length H = omega (arith, dep_lt conflict d, dep_inside conflict d) in
-                u.places.complete x k (taken_before H l e.order a x k (omega arith))
+                let d = marks.sound x q j (omega (arith, t.inside, few)) b in
+                let f = dep_lt conflict (dep_at conflict h l (order_within h l e.order) ((agrees_keeps conflict h l e.order).1 e.agrees) d) in
+                let g : at h l q ≡ a = same_at h l q a (omega arith) same_a in
+                let k : x < length h = omega (arith, dep_lt conflict d, dep_inside conflict d) in
+                u.places.complete x k (taken_before h l e.order a x k (omega arith))

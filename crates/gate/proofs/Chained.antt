@@ -7,11 +7,10 @@ use lib.ListN.{length}
 use Rattle.book.specs.Format.{Bytes, Contents, accepted, read, with_history}
 use Rattle.plain.specs.Plain.{Call, Answer, newly_opened, PlainCalls, PlainCall, none as no_calls, next as next_call}
 use Rattle.plain.specs.Demand.{Demand3}
-use Rattle.gate.specs.Gate.{answer_of, book_of, state_of, opened_book, Sound, OpenedAs, CalledAs}
+use Rattle.gate.specs.Gate.{Replied, answer_of, book_of, state_of, opened_book, Sound, OpenedAs, CalledAs}
 use Rattle.gate.specs.Chain.{Chain, none, link}
 use Rattle.gate.specs.declared.Gate.{Gate}
 use Rattle.gate.specs.declared.Opened.{Opened}
-use Rattle.gate.specs.declared.Reply.{Reply}
 use Rattle.plain.proofs.PlainGate.{call_history}
 use Rattle.gate.proofs.Records.{sound_call}
 use Rattle.plain.proofs.Demand.{plain_demand}
@@ -39,7 +38,7 @@ demand_3 s c bytes e o w calls answers g k = plain_demand c s bytes e calls answ
 
 -- ---- one call more
 
-pub chain_snoc : {g h k : Gate} {xs : List Call} {bs : List Answer} {x : Call} → Chain g xs bs h → (a : Reply) → CalledAs h x a k
+pub chain_snoc : {g h k : Gate} {xs : List Call} {bs : List Answer} {x : Call} → Chain g xs bs h → (a : Replied) → CalledAs h x a k
     → Chain g (xs ++ x ∷ []) (bs ++ answer_of a ∷ []) k
 chain_snoc none a w = link a w none
 chain_snoc (link b v c) a w = link b v (chain_snoc c a w)

@@ -1,5 +1,6 @@
 -- A record is determined by what it means: two sound records of the same book and state are equal in every byte. So a refused call changes no byte of
 -- the record, and one that is not sound is handed back as it is.
+use Rattle.std.specs.Prelude.{Err}
 use Prim.Native.Nat.{ℕ}
 use mathlib.Core.Path.{◌≡◌, refl, ap, ap₂, sym, ◌∙◌}
 use mathlib.Core.List.{List}
@@ -13,7 +14,6 @@ use Rattle.book.proofs.Determined.{flags_same, determined}
 use Rattle.plain.specs.Plain.{Call, Answer, refused, State, PlainCall, step_refused, step_tangled, step_kept, withdraw_refused, withdraws, take_back_refused, takes_back}
 use Rattle.gate.specs.Gate.{book_of, state_of, Sound, CalledAs, on_sound, on_damaged}
 use Rattle.gate.specs.declared.Gate.{Gate}
-use Rattle.gate.specs.declared.Reply.TheVariants.{Refused}
 
 pub same_record : (g h : Gate) → Sound g → Sound h → book_of g ≡ book_of h → state_of g ≡ state_of h → g ≡ h
 same_record g h y z e f =
@@ -34,6 +34,6 @@ stays n (withdraws d) e = let z : ◌≡◌ {A = ℕ} 0 1 = cc in absurd (omega 
 stays n (take_back_refused d) e = refl
 stays n (takes_back d) e = let z : ◌≡◌ {A = ℕ} 0 1 = cc in absurd (omega arith)
 
-pub refused_unchanged : (g h : Gate) (x : Call) (cause : Cause) → CalledAs g x (Refused cause) h → h ≡ g
+pub refused_unchanged : (g h : Gate) (x : Call) (cause : Cause) → CalledAs g x (Err cause) h → h ≡ g
 refused_unchanged g h x cause (on_sound y w) = same_record h g w.sound y w.book (stays (number cause) w.plain refl)
 refused_unchanged g h x cause (on_damaged n e f) = f

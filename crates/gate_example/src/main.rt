@@ -2,43 +2,26 @@
 // another gate over the same runs, which take runs back (document 02, change 7).
 #![tactic(auto)]
 
-use replay::Played;
 use std::io;
 
-// A word, a number in base ten, and the line's end.
-fn write_line(out: &impl Print, word: &[u8], n: u8) -> io::Result<()> {
-    out.write_all(word)?;
-    println!(out; "{n}")
-}
-
-// The answer of two bytes.
-fn write_answer(out: &impl Print, first: u8, second: u8) -> io::Result<()> {
-    if first == 0 {
-        write_line(out, b"place ", second)
-    } else if first == 1 {
-        out.write_all(b"withdrawn\n")
-    } else if first == 3 {
-        out.write_all(b"taken back\n")
-    } else {
-        write_line(out, b"refused ", second)
-    }
-}
-
+// Writes a line for each answer, which replay puts into two bytes.
 fn write_answers(out: &impl Print, answers: &[u8]) -> io::Result<()> {
-    let n = answers.len() / 2;
-    for i in 0..n {
-        write_answer(out, answers[2 * i], answers[2 * i + 1])?;
+    for answer in answers.as_chunks::<2>().0 {
+        match *answer {
+            [0, place] => println!(out; "place {place}")?,
+            [1, _] => println!(out; "withdrawn")?,
+            [3, _] => println!(out; "taken back")?,
+            [_, number] => println!(out; "refused {number}")?,
+        }
     }
     Ok(())
 }
 
 // Makes the calls on a gate newly opened over the book, and writes their answers.
 fn write_replay(out: &impl Print, book: &[u8], calls: &[u8], answers: &mut [u8]) -> io::Result<()> {
-    let replayed = replay::replay(book, calls, answers);
-    let played = replayed.played;
-    match played {
-        Played::Done(_) => write_answers(out, answers),
-        Played::Refused(cause, _) => write_line(out, b"refused by ", book::number_of(cause)),
+    match replay::replay(book, calls, answers).played {
+        Ok(_) => write_answers(out, answers),
+        Err(refusal) => println!(out; "refused by {}", book::number_of(refusal.cause)),
     }
 }
 

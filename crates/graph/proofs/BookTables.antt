@@ -15,16 +15,17 @@ use Rattle.book.specs.Book.{run_cuts, flagged, cut_of, contents_of, Valid}
 use Rattle.book.specs.Meaning.{conflict_of, unit_of}
 use Rattle.book.proofs.Groups.{count_flagged}
 use Rattle.theory.specs.History.{suc_if, count}
-use Rattle.theory.specs.Graph.{FirstOf, LastOf, Arc}
+use Rattle.theory.specs.Graph.{FirstOf, LastOf}
 use Rattle.theory.specs.Deck.{Cut, unit}
 use Rattle.theory.proofs.Places.{Compared, eq_cases}
-use Rattle.dependence.specs.Marks.{Marks}
 use Rattle.dependence.specs.Inner.Reading.{ReadFromCodes}
+use Rattle.dependence.specs.Inner.Tables.{HistoryOf, Declared, RunRows}
 use Rattle.dependence.proofs.Counting.{history_length}
 use Rattle.dependence.proofs.BookTables.{book_history, book_read}
 use Rattle.graph.specs.Units.{UnchangedFrom, UnitTables}
-use Rattle.graph.specs.Inner.Tables.{Counts, CutsOf, EachBy}
-use Rattle.graph.specs.Inner.Arcs.{TablesOf, TablesBy, ArcRows}
+use Rattle.graph.specs.Inner.Tables.{Counts, CutsOf, EachBy, TablesBy, TablesOf}
+use Rattle.graph.specs.Inner.Arcs.{done, GraphOf}
+use Rattle.graph.specs.declared.graph.Graph.{Graph}
 
 -- ---- cuts
 
@@ -85,6 +86,28 @@ cuts_of cuts = record {
         → unit (map cut_of (flagged 0 cuts)) r o (suc i) ≡ unit (map cut_of (flagged 0 cuts)) r o i + suc_if (not (eqb (get_or cuts (r * run_cuts + suc i * run_limit + o) 0) 0)) 0
     next r o i ho hi = unit_next (flagged 0 cuts) r o i ho hi ∙ ap (λ (x : ℕ). unit (map cut_of (flagged 0 cuts)) r o i + x) (count_flagged cuts (r * run_cuts + suc i * run_limit + o))
 
+-- ---- a graph of other tables than a book's
+
+-- a history's runs are declared where all are, so that each history with its tables makes a graph
+pub all_declared : (history : List ℕ) (n : ℕ) → HistoryOf history n → Declared history n run_limit
+all_declared history n s = record { few = omega arith; declared = λ p i. s.runs.small p }
+
+pub graph_with : (history : List ℕ) (n : ℕ) (catalogue dep firsts lasts : List ℕ) → HistoryOf history n → RunRows (take n history) n catalogue
+    → TablesOf (take n history) dep firsts lasts → Graph
+graph_with history n catalogue dep firsts lasts s r t = record {
+  history = history;
+  n = n;
+  declared = run_limit;
+  catalogue = catalogue;
+  dep = dep;
+  firsts = firsts;
+  lasts = lasts;
+  stored = s;
+  runs = all_declared history n s;
+  run_rows = r;
+  tables = ∣ t ∣₁;
+}
+
 -- ---- a valid book
 
 module _ (b : Book) (v : Valid b) where
@@ -123,10 +146,13 @@ module _ (b : Book) (v : Valid b) where
     lasts_are = u.lasts_are;
   }
 
-  module _ (dep firsts lasts : List ℕ) (t : TablesBy (conflict_of (contents_of b)) (unit_of (contents_of b)) h dep firsts lasts) where
-    unfoldable pub book_some_tables : TablesOf h dep firsts lasts
-    book_some_tables = record { conflict = conflict_of (contents_of b); unit = unit_of (contents_of b); by = t }
+  pub book_some_tables : (dep firsts lasts : List ℕ) → TablesBy (conflict_of (contents_of b)) (unit_of (contents_of b)) h dep firsts lasts → TablesOf h dep firsts lasts
+  book_some_tables dep firsts lasts t = record { conflict = conflict_of (contents_of b); unit = unit_of (contents_of b); by = t }
 
-    pub book_arcs : (arc : List ℕ) → ArcRows h dep firsts lasts arc → Marks (Arc (conflict_of (contents_of b)) (unit_of (contents_of b)) (contents_of b).history) arc
-    unfolding contents_of book_some_tables
-    book_arcs arc r = r.marks book_some_tables
+  -- what a graph with these tables is
+  pub book_graph : (g : Graph) → g.history ≡ b.history → g.n ≡ b.done → TablesBy (conflict_of (contents_of b)) (unit_of (contents_of b)) h g.dep g.firsts g.lasts
+      → GraphOf (conflict_of (contents_of b)) (unit_of (contents_of b)) (contents_of b).history g
+  unfolding contents_of
+  book_graph g e k t =
+      let z : done g ≡ h = cc in
+      record { history_is = z; tables_are = rw z t }

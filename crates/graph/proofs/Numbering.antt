@@ -1,6 +1,5 @@
 -- Ordinals and places of a history, one place at a time.
 use Prim.Native.Nat.{ℕ, suc, ◌+◌, ◌*◌, ◌≤◌, ◌<◌}
-use native.Mathlib.Nat.{le_antisymm}
 use native.Mathlib.Numerals.{add-one}
 use native.Mathlib.Decide.{ℕ_discrete}
 use native.Mathlib.Omega.{arith}
@@ -9,16 +8,16 @@ use mathlib.Core.Logic.{◌⊎◌, inl, inr}
 use mathlib.Core.List.{List}
 use mir.Val.{Fits}
 use mir.Syntax.{w8}
-use lib.ListN.{length, get_or, take, set, replicate}
-use lib.Seq.{get_or-set_same, get_or-set_other, take-take}
+use lib.ListN.{length, get_or, take, set}
+use lib.Seq.{get_or-set_same, get_or-set_other}
 use Rattle.theory.specs.History.{count, run, ordinal}
 use Rattle.theory.specs.Inner.Places.{place_of}
-use Rattle.theory.proofs.Lists.{count_take_lt, count_take_ne, count_take_le, get_or_zeros}
+use Rattle.theory.proofs.Lists.{count_take_lt, count_take_ne, count_take_le}
 use Rattle.theory.proofs.Places.{place_of_back}
 use Rattle.book.specs.Format.{run_limit, run_step_limit, step_limit}
 use Rattle.dependence.specs.Inner.Tables.{HistoryOf}
-use Rattle.graph.specs.Inner.Tables.{places_size, Numbering}
-use Rattle.dependence.proofs.Counting.{low, below_next, history_length, history_run}
+use Rattle.graph.specs.Inner.Tables.{places_size}
+use Rattle.dependence.proofs.Counting.{below_next, history_length, history_run}
 
 -- the places below p are numbered, and counts has how many there are of each run
 pub record NumberedBelow (h ordinals places counts : List ℕ) (n p : ℕ) : Type 0 where
@@ -26,14 +25,6 @@ pub record NumberedBelow (h ordinals places counts : List ℕ) (n p : ℕ) : Typ
   pub ordinals_are : (k : ℕ) → k < p → get_or ordinals k 0 ≡ ordinal h k
   pub places_are : (r i : ℕ) → r < run_limit → i < count (take p h) r → get_or places (r * run_step_limit + i) 0 ≡ place_of h r i
   pub counts_are : (r : ℕ) → r < run_limit → get_or counts r 0 ≡ count (take p h) r
-
-pub numbered_none : (h ordinals places : List ℕ) (n m : ℕ) → NumberedBelow h ordinals places (replicate m 0) n 0
-numbered_none h ordinals places n m = record {
-  within = omega arith;
-  ordinals_are = λ k i. absurd (low k i);
-  places_are = λ r i hr j. absurd (low i j);
-  counts_are = λ r hr. get_or_zeros m r;
-}
 
 module _ (history ordinals places counts : List ℕ) (n p : ℕ) (hs : HistoryOf history n) (w : NumberedBelow (take n history) ordinals places counts n p) (i : p < n)
     (r c : ℕ) (er : r ≡ get_or history p 0) (ec : c ≡ get_or counts r 0) where
@@ -99,12 +90,3 @@ module _ (history ordinals places counts : List ℕ) (n p : ℕ) (hs : HistoryOf
         places_at r' i' h' l (no m) =
             let l' : i' < count (take p (take n history)) r' = rw (← count_take_ne (take n history) r' p (λ e. m (sym e ∙ is_run))) l in
             old r' i' h' l' (λ e. m (omega (arith, below, count_take_le (take n history) r' p, hs.few r')))
-
-pub numbered_all : (history ordinals places counts : List ℕ) (n p : ℕ) → HistoryOf history n → NumberedBelow (take n history) ordinals places counts n p → n ≤ p → Numbering (take n history) ordinals places
-numbered_all history ordinals places counts n p hs w l =
-    let e : p ≡ n = le_antisymm w.within l in
-    let t : take p (take n history) ≡ take n history = rw e (take-take n n history (omega arith)) in
-    record {
-      ordinals_are = λ k j. w.ordinals_are k (omega (arith, history_length hs));
-      places_are = λ r i h' j. w.places_are r i h' (rw t j);
-    }

@@ -5,9 +5,11 @@ use native.Mathlib.Decide.{ℕ_discrete, dec_lt}
 use native.Mathlib.Omega.{arith}
 use mathlib.Core.Path.{◌≡◌, refl, sym, ap, ◌∙◌}
 use mathlib.Core.Logic.{◌⊎◌, inl, inr, ◌≢◌}
-use mathlib.Core.List.{List}
-use lib.ListN.{length, get_or, take, set}
-use lib.Seq.{get_or-set_same, get_or-set_other}
+use mathlib.Core.List.{List, ◌++◌}
+use lib.ListN.{length, get_or, take, drop}
+use lib.Seq.{get_or-take, get_or-drop, length-take-le}
+use borrow.Rule.Slice.PartMut.{put_mid}
+use Rattle.std.proofs.lemmas.List.{get_or_append_left, get_or-append_right}
 use Rattle.theory.specs.History.{count, run, ordinal}
 use Rattle.theory.specs.Relative.{InUnit}
 use Rattle.theory.specs.Graph.{FirstOf, LastOf, ArcI}
@@ -34,38 +36,53 @@ flag_some (suc m) a b n = refl
 
 -- ---- a row, an entry for each run
 
-pub row_none : (t : List ℕ) (p : ℕ) (v : ℕ → ℕ) → RowSet t t p v 0
-row_none t p v = record { here = λ o i. absurd (low o i); others = λ k o ho n. refl }
+-- the first m of a row by itself are v
+pub record RowMade (row : List ℕ) (v : ℕ → ℕ) (m : ℕ) : Type 0 where
+  pub long : length row ≡ run_limit
+  pub here : (o : ℕ) → o < m → get_or row o 0 ≡ v o
 
-pub row_end : (t u : List ℕ) (p o : ℕ) (v : ℕ → ℕ) → RowSet t u p v o → run_limit ≤ o → RowSet t u p v run_limit
-row_end t u p o v w l = record { here = λ x i. w.here x (omega arith); others = w.others }
-
-row_more : (t u : List ℕ) (p o x : ℕ) (v : ℕ → ℕ) → RowSet t u p v o → o < run_limit → p < step_limit → length u ≡ units_size → x ≡ v o → RowSet t (set u (p * run_limit + o) x) p v (o + 1)
-row_more t u p o x v w i hp l e = record {
-  here = λ k j. at k (below_next k o j);
-  others = λ k a ha n. get_or-set_other u (p * run_limit + o) (k * run_limit + a) x 0 (λ z. n (omega arith)) ∙ w.others k a ha n;
-}
+-- a row put where the row of p stood
+pub row_put : (t made row : List ℕ) (p k o : ℕ) (v : ℕ → ℕ) → RowMade made v o → run_limit ≤ o → row ≡ made → p < step_limit → length t ≡ units_size → k ≡ run_limit
+    → RowSet t (put_mid (p * run_limit) k t row) p v run_limit
+row_put t made row p k m v w all q i l e = record { here = here; others = others }
   where
-    at : (k : ℕ) → (k ≡ o) ⊎ (k < o) → get_or (set u (p * run_limit + o) x) (p * run_limit + k) 0 ≡ v k
-    at k (inl z) = rw z (get_or-set_same u (p * run_limit + o) x 0 (omega arith) ∙ e)
-    at k (inr j) = get_or-set_other u (p * run_limit + o) (p * run_limit + k) x 0 (λ z. omega arith) ∙ w.here k j
+    first : ℕ
+    first = p * run_limit
 
-pub set_row_more : (t u : List ℕ) (p o : ℕ) → RowSet t u p (λ _. p) o → o < run_limit → p < step_limit → length u ≡ units_size → RowSet t (set u (p * run_limit + o) p) p (λ _. p) (o + 1)
-set_row_more t u p o w i hp l = row_more t u p o p (λ _. p) w i hp l refl
+    rest : List ℕ
+    rest = drop k (drop first t)
 
-pub copy_row_more : (cuts : List ℕ) (at : ℕ) (t : List ℕ) (p from : ℕ) (u : List ℕ) (o x : ℕ) → RowSet t u p (copied_row cuts at t p from) o → o < run_limit → RowRoom at p from
-    → length u ≡ units_size → x ≡ by_flag (get_or cuts (at + o) 0) (get_or u (from * run_limit + o) 0) p → RowSet t (set u (p * run_limit + o) x) p (copied_row cuts at t p from) (o + 1)
-copy_row_more cuts at t p from u o x w i r l e =
-    row_more t u p o x (copied_row cuts at t p from) w i r.to_row l
-    (e ∙ ap (λ (a : ℕ). by_flag (get_or cuts (at + o) 0) a p) (w.others from o i r.apart))
+    u : List ℕ
+    u = put_mid first k t row
+
+    head : length (take first t) ≡ first
+    head = length-take-le first t (omega (arith, l))
+
+    long : length row ≡ run_limit
+    long = ap length q ∙ w.long
+
+    behind : (x : ℕ) → first ≤ x → get_or u x 0 ≡ get_or (row ++ rest) (x - first) 0
+    behind x h = get_or-append_right (take first t) (row ++ rest) first x 0 head h
+
+    here : (o : ℕ) → o < run_limit → get_or u (first + o) 0 ≡ v o
+    here o j =
+        behind (first + o) (omega arith) ∙ ap (λ n. get_or (row ++ rest) n 0) (omega arith) ∙ get_or_append_left row rest 0 o (omega (arith, long))
+        ∙ ap (λ (xs : List ℕ). get_or xs o 0) q ∙ w.here o (omega arith)
+
+    others : (a o : ℕ) → o < run_limit → a ≢ p → get_or u (a * run_limit + o) 0 ≡ get_or t (a * run_limit + o) 0
+    others a o j n = go (dec_lt a p)
+      where
+        x : ℕ
+        x = a * run_limit + o
+
+        go : Dec (a < p) → get_or u x 0 ≡ get_or t x 0
+        go (yes h) = get_or_append_left (take first t) (row ++ rest) 0 x (omega (arith, head)) ∙ get_or-take first t x 0 (omega arith)
+        go (no h) =
+            let above : p < a = omega arith in
+            behind x (omega arith) ∙ get_or-append_right row rest run_limit (x - first) 0 long (omega arith) ∙ get_or-drop k (drop first t) (x - first - run_limit) 0
+            ∙ get_or-drop first t (k + (x - first - run_limit)) 0 ∙ ap (λ m. get_or t m 0) (omega (arith, e))
 
 -- ---- a table filled row by row
-
-each_none : {E : ℕ → ℕ → ℕ → Type 0} (k : ℕ) (t : List ℕ) → EachPlace E k k t
-each_none k t = record { at = λ p o a b. absurd (over p a b) }
-  where
-    over : (p : ℕ) → k ≤ p → p < k → ⊥
-    over p a b = omega arith
 
 module _ {E : ℕ → ℕ → ℕ → Type 0} {a b p : ℕ} {t u : List ℕ} {v : ℕ → ℕ} (w : EachPlace E a b t) (r : RowSet t u p v run_limit) (e : (o : ℕ) → o < run_limit → E o p (v o)) where
   other_row : (k o : ℕ) → a ≤ k → k < b → o < run_limit → k ≢ p → E o k (get_or u (k * run_limit + o) 0)
@@ -87,9 +104,6 @@ module _ {E : ℕ → ℕ → ℕ → Type 0} {a b p : ℕ} {t u : List ℕ} {v 
       go : (k o : ℕ) → a - 1 ≤ k → k < b → o < run_limit → Dec (k ≡ p) → E o k (get_or u (k * run_limit + o) 0)
       go k o ha hb ho (yes y) = row_here k o ho y
       go k o ha hb ho (no n) = other_row k o (omega arith) hb ho n
-
-pub kept_none : (n : ℕ) (t : List ℕ) → UnchangedFrom n t t
-kept_none n t = record { at = λ p o l ho. refl }
 
 pub kept_row : (n p : ℕ) (t u v y : List ℕ) (w : ℕ → ℕ) → UnchangedFrom n t u → p < n → RowSet u v p w run_limit → y ≡ v → UnchangedFrom n t y
 kept_row n p t u v y w k i r e = rw e (record { at = λ a o l ho. r.others a o ho (λ z. omega arith) ∙ k.at a o l ho })
@@ -181,18 +195,6 @@ module _ (unit : ℕ → ℕ → ℕ → ℕ) (cuts : List ℕ) (cs : CutsOf uni
 
 -- ---- the loops
 
-pub firsts_none : (cuts h t : List ℕ) → EachBy FirstOf cuts h 0 0 t
-firsts_none cuts h t = record { of = λ unit cs. each_none 0 t }
-
-pub lasts_none : (cuts h t : List ℕ) (n : ℕ) → EachBy LastOf cuts h n n t
-lasts_none cuts h t n = record { of = λ unit cs. each_none n t }
-
-pub firsts_all : (cuts h t : List ℕ) (n p : ℕ) → p ≤ n → n ≤ p → EachBy FirstOf cuts h 0 p t → EachBy FirstOf cuts h 0 n t
-firsts_all cuts h t n p a b w = let e : p ≡ n = omega arith in rw e at w
-
-pub lasts_all : (cuts h t : List ℕ) (n p : ℕ) → p ≤ 0 → EachBy LastOf cuts h p n t → EachBy LastOf cuts h 0 n t
-lasts_all cuts h t n p a w = let e : p ≡ 0 = omega arith in rw e at w
-
 module _ (history ordinals places : List ℕ) (n : ℕ) (hs : HistoryOf history n) (nb : Numbering (take n history) ordinals places) where
   module _ (p r i : ℕ) (ip : p < n) (er : r ≡ get_or history p 0) (ei : i ≡ get_or ordinals p 0) where
     inside : p < length (take n history)
@@ -275,9 +277,6 @@ module _ (history ordinals places : List ℕ) (n : ℕ) (hs : HistoryOf history 
         ended = rw (is_run (p - 1) r i jp er ei) (omega (arith, is_count, is_ordinal (p - 1) r i jp er ei))
 
     module _ (more : i + 1 < c) where
-      pub last_index : r * run_step_limit + (i + 1) < places_size
-      last_index = omega (arith, small (p - 1) r i jp er ei, is_count, hs.few r)
-
       module _ (from : ℕ) (ef : from ≡ get_or places (r * run_step_limit + (i + 1)) 0) where
         in_run : i + 1 < count (take n history) r
         in_run = omega (arith, is_count)

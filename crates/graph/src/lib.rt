@@ -1,43 +1,26 @@
 // The graph of a history: units and arc rows.
 #![tactic(auto)]
 
-ghost use Rattle.std.specs.Prelude.{◌≡◌, ◌≢◌, ◌+◌, ◌*◌, ◌<◌, ◌≤◌, length, take};
+ghost use Rattle.std.specs.Prelude.{◌≡◌, ◌≢◌, ◌+◌, ◌*◌, ◌<◌, ◌≤◌, take};
 ghost use Rattle.theory.specs.Graph.{FirstOf, LastOf};
 ghost use Rattle.book.specs.Format.{run_limit, step_limit};
 ghost use Rattle.book.specs.Book.{Valid, contents_of};
 ghost use Rattle.book.specs.Meaning.{conflict_of, unit_of};
-ghost use Rattle.dependence.specs.Dependence.{Blank};
-ghost use Rattle.dependence.specs.Inner.Tables.{HistoryOf, Declared, NumberAt, RunRows};
-ghost use Rattle.graph.specs.Units.{units_size, UnchangedFrom, UnitTables};
-ghost use Rattle.graph.specs.Inner.Tables.{places_size, Numbering, Counts, EachBy, RowRoom, RowSet, by_flag, copied_row};
-ghost use Rattle.graph.specs.Inner.Arcs.{ArcOf, ArcOfPlaces, TablesBy, TablesOf, GainedBy, ArcRows, ArcInput, Rowed};
+ghost use Rattle.dependence.specs.Inner.Tables.{HistoryOf, NumberAt};
+ghost use Rattle.graph.specs.Units.{UnchangedFrom, UnitTables};
+ghost use Rattle.graph.specs.Inner.Tables.{Numbering, Counts, EachBy, RowRoom, RowSet, by_flag, copied_row};
+ghost use Rattle.graph.specs.Inner.Arcs.{GraphOf, ArcOf, ArcOfPlaces, GainedBy, ArcRows, RunMask, Rowed};
 ghost use Rattle.bits.specs.Table.{bit_at, intersection};
 ghost use Rattle.bits.specs.Last.{LastAt};
 
-use bits::{Found, Row, Table};
+use bits::{Row, Table};
 use book::Book;
+pub use graph::{Graph, UNITS_SIZE, Units};
 
-// The size of a table of a place for each place and each run.
-pub const UNITS_SIZE: usize = Book::STEPS * Book::RUNS;
-
-// For each place p and each run o a place, at p * Book::RUNS + o.
-pub type Units = [u8; UNITS_SIZE];
+mod graph;
 
 // The size of a table of a place for each step, of run r and ordinal i at r * Book::RUN_STEPS + i.
 const PLACES_SIZE: usize = Book::RUNS * Book::RUN_STEPS;
-
-// These have no effect: their contracts say how long the array is, for functions that hold it by `&mut`.
-fn sized_by_place(t: [u8; Book::STEPS])
-    ensures { length t ≡ step_limit }
-{}
-
-fn sized_by_step(t: [u8; PLACES_SIZE])
-    ensures { length t ≡ places_size }
-{}
-
-fn sized_units(t: Units)
-    ensures { length t ≡ units_size }
-{}
 
 // The ordinal of each place, and the place of each step.
 fn number_places(
@@ -49,18 +32,13 @@ fn number_places(
     requires { HistoryOf history.now n }
     ensures { Numbering (take n history.now) ordinals.new places.new }
 {
-    let mut counts = [0u8; Book::RUNS];
-    let mut p = 0;
-    while p < n {
-        sized_by_place(*ordinals);
-        sized_by_step(*places);
+    let mut counts = [0; Book::RUNS];
+    for p in 0..n {
         let r = dependence::run_of(history, p);
         let i = counts[r];
         ordinals[p] = i;
-        let j = book::wide(i);
-        places[r * Book::RUN_STEPS + j] = p as u8;
+        places[r * Book::RUN_STEPS + book::wide(i)] = p as u8;
         counts[r] = i + 1;
-        p += 1;
     }
 }
 
@@ -69,12 +47,7 @@ fn set_row(t: &mut Units, p: usize)
     requires { p < step_limit }
     ensures { RowSet t.old t.new p (λ o. p) run_limit }
 {
-    let mut o = 0;
-    while o < Book::RUNS {
-        sized_units(*t);
-        t[p * Book::RUNS + o] = p as u8;
-        o += 1;
-    }
+    t[p * Book::RUNS..(p + 1) * Book::RUNS].fill(p as u8);
 }
 
 // a where there is no flag, b where there is one.
@@ -89,80 +62,83 @@ fn copy_row(cuts: &[u8; Book::CUTS_SIZE], at: usize, t: &mut Units, p: usize, fr
     requires { RowRoom at p from }
     ensures { RowSet t.old t.new p (copied_row cuts.now at t.old p from) run_limit }
 {
-    let mut o = 0;
-    while o < Book::RUNS {
-        sized_units(*t);
-        t[p * Book::RUNS + o] = by_flag(cuts[at + o], t[from * Book::RUNS + o], p as u8);
-        o += 1;
+    let mut row = [0; Book::RUNS];
+    for (o, place) in row.iter_mut().enumerate() {
+        *place = by_flag(cuts[at + o], t[from * Book::RUNS + o], p as u8);
     }
+    t[p * Book::RUNS..(p + 1) * Book::RUNS].copy_from_slice(&row);
 }
 
-// The first place of each unit: a step's own, or that of the step before it.
-fn unit_firsts(
-    history: &[u8; Book::STEPS],
-    n: usize,
-    ordinals: &[u8; Book::STEPS],
-    places: &[u8; PLACES_SIZE],
-    cuts: &[u8; Book::CUTS_SIZE],
-    t: &mut Units,
-)
-    requires { HistoryOf history.now n × Numbering (take n history.now) ordinals.now places.now }
-    ensures { EachBy FirstOf cuts.now (take n history.now) 0 n t.new × UnchangedFrom n t.old t.new }
-{
-    let mut p = 0;
-    while p < n {
-        let r = dependence::run_of(history, p);
-        let i = book::wide(ordinals[p]);
-        if i == 0 {
-            set_row(t, p);
-        } else {
-            let from = book::wide(places[r * Book::RUN_STEPS + i - 1]);
-            copy_row(cuts, r * Book::RUN_CUTS + i * Book::RUNS, t, p, from);
+// A book with its done steps numbered run by run: the ordinal of each place, and the place of each step.
+#[derive(Clone, Copy)]
+struct Numbered<'a> {
+    book: &'a Book,
+    ordinals: [u8; Book::STEPS],
+    places: [u8; PLACES_SIZE],
+    ghost stored: { HistoryOf book.now.history book.now.done },
+    ghost counted: { Counts (take book.now.done book.now.history) book.now.counts },
+    ghost numbering: { Numbering (take book.now.done book.now.history) ordinals places },
+}
+
+impl Numbered<'_> {
+    // The first place of each unit: a step's own, or that of the step before it.
+    fn unit_firsts(&self, t: &mut Units)
+        ensures { EachBy FirstOf self.now.book.now.cuts (take self.now.book.now.done self.now.book.now.history) 0 self.now.book.now.done t.new × UnchangedFrom self.now.book.now.done t.old t.new }
+    {
+        let b = self.book;
+        for p in 0..b.done {
+            let r = dependence::run_of(&b.history, p);
+            let i = book::wide(self.ordinals[p]);
+            if i == 0 {
+                set_row(t, p);
+            } else {
+                let from = book::wide(self.places[r * Book::RUN_STEPS + i - 1]);
+                copy_row(&b.cuts, r * Book::RUN_CUTS + i * Book::RUNS, t, p, from);
+            }
         }
-        p += 1;
     }
-}
 
-// The last place of each unit: a step's own, or that of the step after it.
-fn unit_lasts(
-    history: &[u8; Book::STEPS],
-    n: usize,
-    ordinals: &[u8; Book::STEPS],
-    places: &[u8; PLACES_SIZE],
-    counts: &[u8; Book::RUNS],
-    cuts: &[u8; Book::CUTS_SIZE],
-    t: &mut Units,
-)
-    requires { HistoryOf history.now n × Numbering (take n history.now) ordinals.now places.now × Counts (take n history.now) counts.now }
-    ensures { EachBy LastOf cuts.now (take n history.now) 0 n t.new × UnchangedFrom n t.old t.new }
-{
-    let mut p = n;
-    while p > 0 {
-        p -= 1;
-        let r = dependence::run_of(history, p);
-        let i = book::wide(ordinals[p]) + 1;
-        if i < book::wide(counts[r]) {
-            let from = book::wide(places[r * Book::RUN_STEPS + i]);
-            copy_row(cuts, r * Book::RUN_CUTS + i * Book::RUNS, t, p, from);
-        } else {
-            set_row(t, p);
+    // The last place of each unit: a step's own, or that of the step after it.
+    fn unit_lasts(&self, t: &mut Units)
+        ensures { EachBy LastOf self.now.book.now.cuts (take self.now.book.now.done self.now.book.now.history) 0 self.now.book.now.done t.new × UnchangedFrom self.now.book.now.done t.old t.new }
+    {
+        let b = self.book;
+        for p in (0..b.done).rev() {
+            let r = dependence::run_of(&b.history, p);
+            let i = book::wide(self.ordinals[p]) + 1;
+            if i < book::wide(b.counts[r]) {
+                let from = book::wide(self.places[r * Book::RUN_STEPS + i]);
+                copy_row(&b.cuts, r * Book::RUN_CUTS + i * Book::RUNS, t, p, from);
+            } else {
+                set_row(t, p);
+            }
         }
     }
 }
 
-// The first and the last place of each place's unit, as seen by each run.
+// The first and the last place of each place's unit in a lent book, as seen by each run.
+pub fn units_lent(b: &Book, firsts: &mut Units, lasts: &mut Units)
+    requires { Valid b.now }
+    ensures { UnitTables (unit_of (contents_of b.now)) (contents_of b.now).history firsts.old firsts.new lasts.old lasts.new }
+{
+    let mut ordinals = [0; Book::STEPS];
+    let mut places = [0; PLACES_SIZE];
+    number_places(&b.history, b.done, &mut ordinals, &mut places);
+    let numbered = Numbered {
+        book: b,
+        ordinals,
+        places,
+    };
+    numbered.unit_firsts(firsts);
+    numbered.unit_lasts(lasts);
+}
+
+// The same of a book by value.
 pub fn units(b: Book, firsts: &mut Units, lasts: &mut Units)
     requires { Valid b }
     ensures { UnitTables (unit_of (contents_of b)) (contents_of b).history firsts.old firsts.new lasts.old lasts.new }
 {
-    let history = b.history;
-    let counts = b.counts;
-    let n = b.done;
-    let mut ordinals = [0u8; Book::STEPS];
-    let mut places = [0u8; PLACES_SIZE];
-    number_places(&history, n, &mut ordinals, &mut places);
-    unit_firsts(&history, n, &ordinals, &places, &b.cuts, firsts);
-    unit_lasts(&history, n, &ordinals, &places, &counts, &b.cuts, lasts);
+    units_lent(&b, firsts, lasts);
 }
 
 // What a table of units has of place p and run o.
@@ -173,130 +149,101 @@ pub fn place_in(t: &Units, n: usize, p: usize, o: usize) -> usize
     book::wide(t[p * Book::RUNS + o])
 }
 
-// The arcs that come of what place q, of run s, depends on in another run r, whose places the mask has; l is the last such place.
-// D: from each to q. F: from the last place of l's unit to q. B: from each to the first place of q's unit.
-fn arcs_across(
-    history: &[u8; Book::STEPS],
-    n: usize,
-    dep: &Table,
-    firsts: &Units,
-    lasts: &Units,
-    mask: &Row,
-    r: usize,
-    q: usize,
-    s: usize,
-    l: usize,
-    arc: &mut Table,
-)
-    requires { ArcInput history.now n dep.now firsts.now lasts.now mask.now r × (q < n) × NumberAt history.now q run_limit s × (r ≢ s) × LastAt (intersection (bit_at dep.now q) (bit_at mask.now 0)) l }
-    ensures { GainedBy ArcOf (take n history.now) dep.now firsts.now lasts.now r q arc.old arc.new }
-{
-    let e = place_in(lasts, n, l, s);
-    let f = place_in(firsts, n, q, r);
-    bits::mark(arc, q, e);
-    bits::join_within(arc, q, dep, q, mask);
-    bits::join_within(arc, f, dep, q, mask);
+// The places of one run in a graph's history, as a row.
+#[derive(Clone, Copy)]
+struct RunPlaces<'a> {
+    graph: &'a Graph,
+    run: usize,
+    places: Row,
+    ghost marked: { RunMask graph.now places run },
 }
 
-// The arcs that come of what place q depends on in run r. I: from the last, if r is q's run.
-fn arcs_between(
-    history: &[u8; Book::STEPS],
-    n: usize,
-    dep: &Table,
-    firsts: &Units,
-    lasts: &Units,
-    mask: &Row,
-    r: usize,
-    q: usize,
-    arc: &mut Table,
-)
-    requires { ArcInput history.now n dep.now firsts.now lasts.now mask.now r × (q < n) }
-    ensures { GainedBy ArcOf (take n history.now) dep.now firsts.now lasts.now r q arc.old arc.new }
-{
-    match bits::last_within(dep, q, mask) {
-        Found::At(l) => {
-            let s = dependence::run_of(history, q);
-            if r == s {
+impl RunPlaces<'_> {
+    // The arcs that come of what place q, of another run s, depends on among these places; l is the last such place.
+    // D: from each to q. F: from the last place of l's unit to q. B: from each to the first place of q's unit.
+    fn arcs_across(&self, q: usize, s: usize, l: usize, arc: &mut Table)
+        requires { (q < self.now.graph.now.n) × NumberAt self.now.graph.now.history q run_limit s × (self.now.run ≢ s)
+            × LastAt (intersection (bit_at self.now.graph.now.dep q) (bit_at self.now.places 0)) l }
+        ensures { GainedBy ArcOf self.now.graph.now self.now.run q arc.old arc.new }
+    {
+        let g = self.graph;
+        let e = g.last(l, s);
+        let f = g.first(q, self.run);
+        bits::mark(arc, q, e);
+        bits::join_within(arc, q, &g.dep, q, &self.places);
+        bits::join_within(arc, f, &g.dep, q, &self.places);
+    }
+
+    // The arcs that come of what place q depends on among these places. I: from the last, if they are of q's run.
+    fn arcs_between(&self, q: usize, arc: &mut Table)
+        requires { q < self.now.graph.now.n }
+        ensures { GainedBy ArcOf self.now.graph.now self.now.run q arc.old arc.new }
+    {
+        if let Some(l) = bits::last_within(&self.graph.dep, q, &self.places) {
+            let s = self.graph.run(q);
+            if self.run == s {
                 bits::mark(arc, q, l);
             } else {
-                arcs_across(history, n, dep, firsts, lasts, mask, r, q, s, l, arc);
+                self.arcs_across(q, s, l, arc);
             }
         }
-        Found::Nothing => {}
+    }
+
+    // The arcs that come of what any place depends on among these places.
+    fn arcs(&self, arc: &mut Table)
+        ensures { GainedBy ArcOfPlaces self.now.graph.now self.now.run self.now.graph.now.n arc.old arc.new }
+    {
+        for q in 0..self.graph.n {
+            self.arcs_between(q, arc);
+        }
     }
 }
 
-// The arcs that come of what any place depends on in run r.
-fn arcs_from(
-    history: &[u8; Book::STEPS],
-    n: usize,
-    dep: &Table,
-    firsts: &Units,
-    lasts: &Units,
-    mask: &Row,
-    r: usize,
-    arc: &mut Table,
-)
-    requires { ArcInput history.now n dep.now firsts.now lasts.now mask.now r }
-    ensures { GainedBy ArcOfPlaces (take n history.now) dep.now firsts.now lasts.now r n arc.old arc.new }
+// The tables of the book's history.
+pub fn tables(b: &Book) -> Graph
+    requires { Valid b.now }
+    ensures { GraphOf (conflict_of (contents_of b.now)) (unit_of (contents_of b.now)) (contents_of b.now).history result }
 {
-    let mut q = 0;
-    while q < n {
-        arcs_between(history, n, dep, firsts, lasts, mask, r, q, arc);
-        q += 1;
-    }
-}
-
-// The tables of the book's history: the catalogue, the dependence table, and the first and the last place of each place's unit as seen by each run.
-pub fn tables(
-    b: Book,
-    catalogue: &mut Table,
-    dep: &mut Table,
-    firsts: &mut Units,
-    lasts: &mut Units,
-)
-    requires { Valid b × Blank catalogue.old × Blank dep.old }
-    ensures { RunRows (take b.done b.history) b.done catalogue.new × TablesBy (conflict_of (contents_of b)) (unit_of (contents_of b)) (take b.done b.history) dep.new firsts.new lasts.new }
-{
-    let history = b.history;
-    let lengths = b.lengths;
-    let steps = b.steps;
-    let pairs = b.pairs;
+    let mut catalogue = [0; bits::TABLE_WORDS];
     let mut seconds = [0; bits::TABLE_WORDS];
+    let mut dep = [0; bits::TABLE_WORDS];
+    let mut firsts = [0; UNITS_SIZE];
+    let mut lasts = [0; UNITS_SIZE];
     dependence::read_steps(
-        &history,
+        &b.history,
         b.done,
-        &lengths,
-        &steps,
-        &pairs,
-        catalogue,
+        &b.lengths,
+        &b.steps,
+        &b.pairs,
+        &mut catalogue,
         &mut seconds,
-        dep,
+        &mut dep,
     );
-    units(b, firsts, lasts);
+    units_lent(b, &mut firsts, &mut lasts);
+    Graph {
+        history: b.history,
+        n: b.done,
+        declared: b.declared,
+        catalogue,
+        dep,
+        firsts,
+        lasts,
+    }
 }
 
-// The arc table of a history, from its tables: bit x of row y where an arc leads from x to y. The rows are made run after run; the catalogue has the
-// places of each run.
-pub fn arcs(
-    history: &[u8; Book::STEPS],
-    n: usize,
-    declared: usize,
-    catalogue: &Table,
-    dep: &Table,
-    firsts: &Units,
-    lasts: &Units,
-    arc: &mut Table,
-)
-    requires { HistoryOf history.now n × Declared history.now n declared × RunRows (take n history.now) n catalogue.now × TablesOf (take n history.now) dep.now firsts.now lasts.now }
-    ensures { ArcRows (take n history.now) dep.now firsts.now lasts.now arc.new }
+// The arc table: bit x of row y where an arc leads from x to y. The rows are made run after run; the catalogue has the places of each run.
+pub fn arcs(g: &Graph, arc: &mut Table)
+    ensures { ArcRows g.now arc.new }
 {
     let mut rows = [0; bits::TABLE_WORDS];
-    let mut r = 0;
-    while r < declared {
-        let mask = dependence::run_places(catalogue, r);
-        arcs_from(history, n, dep, firsts, lasts, &mask, r, &mut rows);
-        r += 1;
+    for r in 0..g.declared {
+        let places = dependence::run_places(&g.catalogue, r);
+        let of_run = RunPlaces {
+            graph: g,
+            run: r,
+            places,
+        };
+        of_run.arcs(&mut rows);
     }
     *arc = rows;
 }

@@ -5,26 +5,20 @@ use native.Mathlib.Numerals.{add-one}
 use native.Mathlib.Decide.{dec_lt}
 use native.Mathlib.Omega.{arith}
 use mathlib.Core.Path.{◌≡◌, refl, sym, ap, ◌∙◌}
-use mathlib.Core.Logic.{◌⊎◌, inl, inr, ◌≢◌}
-use mathlib.Core.Bool.{Bool, true, false, true≢false}
+use mathlib.Core.Logic.{◌≢◌}
+use mathlib.Core.Bool.{true, false}
 use mathlib.Core.List.{List, [], ◌∷◌, ◌++◌, append-nil}
 use mir.Val.{Fits}
-use mir.Syntax.{w8, w64}
-use lib.ListN.{length, get_or, set, replicate, length-set, length-append}
-use lib.Seq.{get_or-set_same, get_or-set_other}
-use lib.Dec.{eqb, eqb→eq}
+use mir.Syntax.{w64}
+use lib.ListN.{length, get_or, set, replicate, length-append}
+use lib.Dec.{eqb}
 use borrow.Author.Tests.{eq-eqb, ne_eqb}
 use Rattle.theory.specs.Components.{smallest_of_each, smallest_runs}
-use Rattle.theory.specs.Answers.{Answers}
-use Rattle.theory.proofs.Answered.{answer_yes, answer_no}
-use Rattle.theory.proofs.Finite.{below_suc}
 use Rattle.theory.proofs.Components.{each_length, smallest_few}
 use Rattle.book.specs.Format.{run_limit}
 use Rattle.book.specs.Book.{unflagged}
-use Rattle.book.specs.declared.Answer.TheVariants.{Accepted}
-use Rattle.islands.specs.Islands.{padded, island_list}
-use Rattle.islands.specs.Inner.Names.{name_in, Own, HasOwnName, OthersFlagged}
-use Rattle.islands.specs.declared.IslandList.{IslandList}
+use Rattle.islands.specs.Islands.{padded}
+use Rattle.islands.specs.Inner.Names.{name_in, Own}
 use Rattle.islands.proofs.Naming.{name_inside, name_outside}
 
 -- ---- one number more
@@ -88,10 +82,6 @@ module _ (names : List ℕ) where
           counted = rw (other, append-nil (smallest_runs (name_in names) r)) w.counted;
         })
 
-  pub listed_all : (smallest list : List ℕ) (count r n : ℕ) → ListedBelow smallest list count r → r ≤ n → n ≤ r
-      → ◌≡◌ {A = IslandList} (record { answer = Accepted; smallest = smallest; list = list; runs = n; count = count }) (island_list (name_in names) n)
-  listed_all smallest list count r n w a b = let e : r ≡ n = omega arith in rw (← e, w.each, w.runs, w.counted)
-
 -- ---- each run by its own name
 
 pub record OwnBelow (t : List ℕ) (k : ℕ) : Type 0 where
@@ -99,65 +89,17 @@ pub record OwnBelow (t : List ℕ) (k : ℕ) : Type 0 where
   pub long : length t ≡ run_limit
   pub own : (j : ℕ) → j < k → get_or t j 0 ≡ j
 
-pub own_none : OwnBelow (replicate run_limit 0) 0
-own_none = record { within = omega arith; long = refl; own = λ j i. absurd (not-suc-le-zero i) }
-
 module _ (t : List ℕ) (k : ℕ) (w : OwnBelow t k) where
-  pub own_fits : (m : ℕ) → m ≡ k → m < run_limit → Fits w8 (k + 1)
-  own_fits m e h = record { fits = omega arith }
-
-  pub own_more : (m : ℕ) → m ≡ k → m < run_limit → (i : ℕ) → i ≡ k → OwnBelow (set t i k) (k + 1)
-  own_more m e h i ei = rw ei (record { within = omega arith; long = length-set t k k ∙ w.long; own = λ j l. at j (below_suc (rw (add-one k) at l)) })
-    where
-      at : (j : ℕ) → (j ≡ k) ⊎ (j < k) → get_or (set t k k) j 0 ≡ j
-      at j (inl z) = rw z (get_or-set_same t k k 0 (omega (arith, w.long)))
-      at j (inr l) = get_or-set_other t k j k 0 (λ z. omega arith) ∙ w.own j l
-
-  pub own_all : (m : ℕ) → m ≡ k → run_limit ≤ m → Own t
-  own_all m e l = record { long = w.long; own = λ j. go j (dec_lt j run_limit) }
+  pub own_all : run_limit ≤ k → Own t
+  own_all l = record { long = w.long; own = λ j. go j (dec_lt j run_limit) }
     where
       go : (j : ℕ) → Dec (j < run_limit) → name_in t j ≡ j
       go j (yes h) = name_inside t j w.long h ∙ w.own j (omega arith)
       go j (no n) = name_outside t j w.long (omega arith)
 
--- ---- a run that has its own name
-
-module _ (names : List ℕ) (n run r : ℕ) (long : length names ≡ run_limit) (hn : n ≤ run_limit) (er : r ≡ run) where
-  pub smallest_answer : r < n → Answers (HasOwnName names n run) (eqb (get_or names r 0) run)
-  smallest_answer h = go (eqb (get_or names r 0) run) refl
-    where
-      here : name_in names run ≡ get_or names r 0
-      here = rw (← er) (name_inside names r long (omega arith))
-
-      go : (b : Bool) → eqb (get_or names r 0) run ≡ b → Answers (HasOwnName names n run) b
-      go true e = answer_yes (record { below = omega arith; own = here ∙ eqb→eq (get_or names r 0) run (rw e tt) })
-      go false e = answer_no (λ a. let z : get_or names r 0 ≡ run = sym here ∙ a.own in true≢false (sym (eq-eqb (get_or names r 0) run z) ∙ e))
-
-  pub smallest_beyond : n ≤ r → Answers (HasOwnName names n run) false
-  smallest_beyond l = answer_no (λ a. omega (arith, a.below))
-
--- ---- the flags of the others
+-- ---- the flags of the others, put in place of the names
 
 pub record FlaggedBelow (t : List ℕ) (m : ℕ) (flags : List ℕ) (k : ℕ) : Type 0 where
   pub long : length flags ≡ run_limit
   pub at : (j : ℕ) → j < k → unflagged flags j ≡ eqb (get_or t j 0) m
-
-pub flagged_none : (t : List ℕ) (m : ℕ) → FlaggedBelow t m (replicate run_limit 0) 0
-flagged_none t m = record { long = refl; at = λ j i. absurd (not-suc-le-zero i) }
-
-module _ (t : List ℕ) (m : ℕ) (flags : List ℕ) (k : ℕ) (w : FlaggedBelow t m flags k) where
-  flagged_more : k < run_limit → (v : ℕ) → eqb v 0 ≡ eqb (get_or t k 0) m → FlaggedBelow t m (set flags k v) (k + 1)
-  flagged_more h v e = record { long = length-set flags k v ∙ w.long; at = λ j l. at j (below_suc (rw (add-one k) at l)) }
-    where
-      at : (j : ℕ) → (j ≡ k) ⊎ (j < k) → unflagged (set flags k v) j ≡ eqb (get_or t j 0) m
-      at j (inl z) = rw (z, get_or-set_same flags k v 0 (omega (arith, w.long))) e
-      at j (inr l) = rw (get_or-set_other flags k j v 0 (λ z. omega arith)) (w.at j l)
-
-  pub flagged_same : k < run_limit → get_or t k 0 ≡ m → (v : ℕ) → v ≡ 0 → FlaggedBelow t m (set flags k v) (k + 1)
-  flagged_same h e v ev = rw ev (flagged_more h 0 (sym (eq-eqb (get_or t k 0) m e)))
-
-  pub flagged_other : k < run_limit → get_or t k 0 ≢ m → (v : ℕ) → v ≡ 1 → FlaggedBelow t m (set flags k v) (k + 1)
-  flagged_other h n v ev = rw ev (flagged_more h 1 (sym (ne_eqb (get_or t k 0) m n)))
-
-  pub flagged_all : run_limit ≤ k → OthersFlagged t m flags
-  flagged_all l = record { at = λ j i. w.at j (omega arith) }
+  pub rest : (j : ℕ) → k ≤ j → get_or flags j 0 ≡ get_or t j 0

@@ -1,5 +1,7 @@
 -- The names of the components of a book's runs, found join by join: each run begins with its own name, and where a run links to another, the larger of their
 -- names gives way to the smaller.
+use Rattle.std.specs.Prelude.{Option, Some, None}
+use Rattle.std.specs.Option.{is_some}
 use Prim.Native.Nat.{ℕ, zero, suc, ◌+◌, ◌*◌, ◌≤◌, ◌<◌, min, max}
 use native.Mathlib.Nat.{le_refl, not-suc-le-zero, le_of_suc-le-suc}
 use native.Mathlib.Numerals.{add-one}
@@ -7,23 +9,19 @@ use native.Mathlib.Decide.{dec_le, dec_lt}
 use native.Mathlib.Omega.{arith}
 use mathlib.Core.Path.{◌≡◌, refl, sym, ap, ◌∙◌}
 use mathlib.Core.Logic.{◌⊎◌, inl, inr, ◌≢◌}
-use mathlib.Core.Bool.{Bool, true, false, cond}
+use mathlib.Core.Bool.{Bool, cond}
 use mathlib.Core.List.{List, [], ◌∷◌}
-use lib.ListN.{length, get_or, set, length-set, get_or-eq_default}
-use lib.Seq.{get_or-set_same, get_or-set_other}
+use lib.ListN.{length, get_or, get_or-eq_default}
 use lib.Dec.{eqb}
-use borrow.Author.Tests.{eq-eqb, ne_eqb}
+use borrow.Author.Tests.{ne_eqb}
 use Rattle.bits.specs.Table.{row_bits, bit_at, intersection, RowCopied}
-use Rattle.bits.specs.First.{NoColumn}
-use Rattle.bits.specs.Last.{LastAt, Last}
-use Rattle.bits.specs.declared.Found.{Found}
-use Rattle.bits.specs.declared.Found.TheVariants.{At, Nothing}
+use Rattle.bits.specs.Last.{Last}
 use Rattle.bits.proofs.Store.{bit_at_lt}
 use Rattle.theory.specs.History.{run}
 use Rattle.theory.specs.Relative.{Lawful, Conflicting}
 use Rattle.theory.specs.Components.{Joined, itself, joined}
 use Rattle.theory.specs.Answers.{Answers}
-use Rattle.theory.proofs.Answered.{answer_yes, answer_no, refute}
+use Rattle.theory.proofs.Answered.{answer_yes, answer_no}
 use Rattle.theory.proofs.Finite.{below_suc}
 use Rattle.theory.proofs.Steps.{conf_ne}
 use Rattle.theory.proofs.Connected.{Names, names_smallest, connected_by, merged, merge}
@@ -43,24 +41,19 @@ use Rattle.islands.specs.Inner.Names.{name_in, LinksTo, LinkedBy, Renamed, Conne
 
 -- ---- whether a run links to another
 
-module _ (catalogue links m : List ℕ) (r s : ℕ) (hr : r < run_limit) (hs : s < run_limit) (k : RowCopied catalogue (run_part * base + s) m) (found : Found)
-    (f : Last (intersection (bit_at links r) (bit_at m 0)) found) where
-  pub links_found : (p : ℕ) → found ≡ At p → Answers (LinksTo catalogue links r s) true
-  links_found p e =
-      let a : LastAt (intersection (bit_at links r) (bit_at m 0)) p = rw e at f in
-      answer_yes (record {
+module _ (catalogue links m : List ℕ) (r s : ℕ) (hr : r < run_limit) (hs : s < run_limit) (k : RowCopied catalogue (run_part * base + s) m) where
+  pub links_answer : (found : Option ℕ) → Last (intersection (bit_at links r) (bit_at m 0)) found → (b : Bool) → b ≡ is_some found → Answers (LinksTo catalogue links r s) b
+  links_answer (Some p) a b e =
+      rw e
+      (answer_yes (record {
         from_run = hr;
         to_run = hs;
         p = p;
         in_row = a.in_row;
         linked = omega (arith, a.here, bit_at_lt links r p, bit_at_lt m 0 p);
         of_run = omega (arith, k.same p a.in_row, a.here, bit_at_lt links r p, bit_at_lt m 0 p);
-      })
-
-  pub links_none : found ≡ Nothing → Answers (LinksTo catalogue links r s) false
-  links_none e =
-      let n : NoColumn (intersection (bit_at links r) (bit_at m 0)) = rw e at f in
-      answer_no (λ l. omega (arith, n.none l.p l.in_row, l.linked, l.of_run, k.same l.p l.in_row))
+      }))
+  links_answer None n b e = rw e (answer_no (λ l. omega (arith, n.none l.p l.in_row, l.linked, l.of_run, k.same l.p l.in_row)))
 
 -- ---- one number in place of another
 
@@ -68,52 +61,6 @@ pub record RenamedBelow (t : List ℕ) (from to : ℕ) (u : List ℕ) (k : ℕ) 
   pub long : length u ≡ run_limit
   pub below : (j : ℕ) → j < k → get_or u j 0 ≡ cond (eqb (get_or t j 0) from) to (get_or t j 0)
   pub rest : (j : ℕ) → k ≤ j → get_or u j 0 ≡ get_or t j 0
-
-pub renamed_none : (t : List ℕ) (from to : ℕ) → length t ≡ run_limit → RenamedBelow t from to t 0
-renamed_none t from to l = record { long = l; below = λ j i. omega arith; rest = λ j i. refl }
-
-module _ (t : List ℕ) (from to : ℕ) (u : List ℕ) (k : ℕ) (w : RenamedBelow t from to u k) where
-  renamed_more : k < run_limit → (v : ℕ) → v ≡ cond (eqb (get_or t k 0) from) to (get_or t k 0) → RenamedBelow t from to (set u k v) (k + 1)
-  renamed_more h v e = record {
-    long = length-set u k v ∙ w.long;
-    below = λ j i. below j (below_suc (rw (add-one k) at i));
-    rest = λ j i. get_or-set_other u k j v 0 (λ z. omega arith) ∙ w.rest j (omega arith);
-  }
-    where
-      below : (j : ℕ) → (j ≡ k) ⊎ (j < k) → get_or (set u k v) j 0 ≡ cond (eqb (get_or t j 0) from) to (get_or t j 0)
-      below j (inl z) = rw z (get_or-set_same u k v 0 (omega (arith, w.long)) ∙ e)
-      below j (inr i) = get_or-set_other u k j v 0 (λ z. omega arith) ∙ w.below j i
-
-  pub renamed_here : k < run_limit → get_or u k 0 ≡ from → (v : ℕ) → v ≡ to → RenamedBelow t from to (set u k v) (k + 1)
-  renamed_here h e v ev = rw ev (renamed_more h to (rw (eq-eqb (get_or t k 0) from (sym (w.rest k (le_refl k)) ∙ e))))
-
-  pub renamed_other : k < run_limit → get_or u k 0 ≢ from → (v : ℕ) → v ≡ get_or u k 0 → RenamedBelow t from to (set u k v) (k + 1)
-  renamed_other h n v ev = rw ev (renamed_more h (get_or u k 0) (rw (ne_eqb (get_or t k 0) from (λ e. n (w.rest k (le_refl k) ∙ e))) (w.rest k (le_refl k))))
-
-  pub renamed_all : run_limit ≤ k → Renamed t from to u
-  renamed_all l = record { long = w.long; at = λ j i. w.below j (omega arith) }
-
--- ---- one name for two runs
-
-module _ (catalogue links t : List ℕ) (r s : ℕ) where
-  pub connects_alike : get_or t r 0 ≡ get_or t s 0 → Connects catalogue links t r s t
-  connects_alike e = alike e refl
-
-  pub connects_no : (b : Bool) → Answers (LinksTo catalogue links r s) b → b ≡ false → Connects catalogue links t r s t
-  connects_no b a e = apart (refute a e) refl
-
-  module _ (b : Bool) (u : List ℕ) (a : Answers (LinksTo catalogue links r s) b) (e : b ≡ true) where
-    pub connects_less : get_or t r 0 < get_or t s 0 → Renamed t (get_or t s 0) (get_or t r 0) u → Connects catalogue links t r s u
-    connects_less l w =
-        let f : max (get_or t r 0) (get_or t s 0) ≡ get_or t s 0 = omega arith in
-        let g : min (get_or t r 0) (get_or t s 0) ≡ get_or t r 0 = omega arith in
-        together (a.sound e) (rw (f, g) w)
-
-    pub connects_more : get_or t s 0 ≤ get_or t r 0 → Renamed t (get_or t r 0) (get_or t s 0) u → Connects catalogue links t r s u
-    connects_more l w =
-        let f : max (get_or t r 0) (get_or t s 0) ≡ get_or t r 0 = omega arith in
-        let g : min (get_or t r 0) (get_or t s 0) ≡ get_or t s 0 = omega arith in
-        together (a.sound e) (rw (f, g) w)
 
 -- ---- the names of an array
 

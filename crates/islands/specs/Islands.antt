@@ -1,14 +1,14 @@
 -- What the calls on a book's islands promise (document 02, change 8). An island is a connected component of the book's runs, by conflicts of its done
 -- steps (theory Components), and is named by its smallest run.
-use Rattle.std.specs.Prelude.{ℕ, ◌-◌, ◌≤◌, ◌<◌, ◌≡◌, ◌⊎◌, List, ◌++◌, length, replicate}
+use Rattle.std.specs.Prelude.{Result, Ok, Err, ℕ, ◌-◌, ◌≤◌, ◌<◌, ◌≡◌, ◌⊎◌, List, ◌++◌, length, replicate}
 use Rattle.theory.specs.Components.{Components, smallest_of_each, smallest_runs, component_history}
 use Rattle.book.specs.Format.{Contents, Outcome, refused, accepted, run_limit, step_limit, read, with_history}
 use Rattle.book.specs.Meaning.{conflict_of}
 use Rattle.book.specs.declared.Cause.TheVariants.{JudgeBufferShort, NoIsland}
-use Rattle.book.specs.declared.Answer.{Answer}
-use Rattle.book.specs.declared.Answer.TheVariants.{Refused, Accepted}
+use Rattle.book.specs.Book.{refusal_at}
+use Rattle.book.specs.declared.Refusal.{Refusal}
+use Rattle.judge.specs.Judged.{JudgeAnswer}
 use Rattle.judge.specs.Judge.{RefusedAs, OutcomeJudged}
-use Rattle.judge.specs.declared.Judgement.{Judgement}
 use Rattle.islands.specs.declared.IslandList.{IslandList}
 use Rattle.islands.specs.declared.IslandSteps.{IslandSteps}
 
@@ -34,54 +34,45 @@ padded n l = l ++ replicate (n - length l) 0
 -- of n runs: the smallest run of each one's island, the islands by their smallest runs, and how many of each there are
 abbrev pub island_list : (ℕ → ℕ) → ℕ → IslandList
 island_list name n = record {
-  answer = Accepted;
   smallest = padded run_limit (smallest_of_each name n);
   list = padded run_limit (smallest_runs name n);
   runs = n;
   count = length (smallest_runs name n);
 }
 
--- refused: every number is 0
-abbrev pub no_islands : Answer → IslandList
-no_islands a = record { answer = a; smallest = replicate run_limit 0; list = replicate run_limit 0; runs = 0; count = 0 }
-
 -- the islands of a book with contents c
-pub record IslandsFound (c : Contents) (r : IslandList) : Type 0 where
+pub record IslandsFound (c : Contents) (r : Result IslandList Refusal) : Type 0 where
   pub name : ℕ → ℕ
   pub islands : IslandsOf c name
-  pub is : r ≡ island_list name (length c.runs)
+  pub is : r ≡ Ok (island_list name (length c.runs))
 
-abbrev pub OutcomeListed : Outcome → IslandList → Type 0
-OutcomeListed (refused cause place) r = r ≡ no_islands (Refused cause place)
+abbrev pub OutcomeListed : Outcome → Result IslandList Refusal → Type 0
+OutcomeListed (refused cause place) r = r ≡ Err (refusal_at cause place)
 OutcomeListed (accepted c) r = IslandsFound c r
 
 -- of the bytes s: refused as the reader refuses, or the islands
-pub record IslandsListed (s : List ℕ) (r : IslandList) : Type 0 where
+pub record IslandsListed (s : List ℕ) (r : Result IslandList Refusal) : Type 0 where
   pub listed : OutcomeListed (read s) r
 
 -- ---- an island's history
 
--- accepted: the history's runs, and how many they are
+-- the history's runs, and how many they are
 abbrev pub island_steps : List ℕ → IslandSteps
-island_steps h = record { answer = Accepted; history = padded step_limit h; count = length h }
-
--- refused: every number is 0
-abbrev pub no_steps : Answer → IslandSteps
-no_steps a = record { answer = a; history = replicate step_limit 0; count = 0 }
+island_steps h = record { history = padded step_limit h; count = length h }
 
 -- of a book with contents c: the history of the island whose smallest run is m; 27, the number only, where m is no island's smallest
-pub record HistoryFound (c : Contents) (m : ℕ) (r : IslandSteps) : Type 0 where
+pub record HistoryFound (c : Contents) (m : ℕ) (r : Result IslandSteps Refusal) : Type 0 where
   pub name : ℕ → ℕ
   pub islands : IslandsOf c name
-  pub found : Smallest c name m → r ≡ island_steps (island_book c name m).history
-  pub no_island : ¬ Smallest c name m → r ≡ no_steps (Refused NoIsland 0)
+  pub found : Smallest c name m → r ≡ Ok (island_steps (island_book c name m).history)
+  pub no_island : ¬ Smallest c name m → r ≡ Err (refusal_at NoIsland 0)
 
-abbrev pub OutcomeHistory : Outcome → ℕ → IslandSteps → Type 0
-OutcomeHistory (refused cause place) m r = r ≡ no_steps (Refused cause place)
+abbrev pub OutcomeHistory : Outcome → ℕ → Result IslandSteps Refusal → Type 0
+OutcomeHistory (refused cause place) m r = r ≡ Err (refusal_at cause place)
 OutcomeHistory (accepted c) m r = HistoryFound c m r
 
 -- of the bytes s: refused as the reader refuses, and then by 27
-pub record IslandHistory (s : List ℕ) (m : ℕ) (r : IslandSteps) : Type 0 where
+pub record IslandHistory (s : List ℕ) (m : ℕ) (r : Result IslandSteps Refusal) : Type 0 where
   pub history : OutcomeHistory (read s) m r
 
 -- ---- an island judged
@@ -89,17 +80,17 @@ pub record IslandHistory (s : List ℕ) (m : ℕ) (r : IslandSteps) : Type 0 whe
 -- order and cycle are the buffers before the call, order' and cycle' after it
 module _ (order order' cycle cycle' : List ℕ) where
   -- of a book with contents c: the verdict on the book with the history of the island whose smallest run is m; 27 where m is no island's smallest
-  pub record PartJudged (c : Contents) (m : ℕ) (r : Judgement) : Type 0 where
+  pub record PartJudged (c : Contents) (m : ℕ) (r : JudgeAnswer) : Type 0 where
     pub name : ℕ → ℕ
     pub islands : IslandsOf c name
     pub found : Smallest c name m → OutcomeJudged order order' cycle cycle' (accepted (island_book c name m)) r
     pub no_island : ¬ Smallest c name m → RefusedAs order order' cycle cycle' NoIsland 0 r
 
-  abbrev pub OutcomePart : Outcome → ℕ → Judgement → Type 0
+  abbrev pub OutcomePart : Outcome → ℕ → JudgeAnswer → Type 0
   OutcomePart (refused cause place) m r = RefusedAs order order' cycle cycle' cause place r
   OutcomePart (accepted c) m r = PartJudged c m r
 
   -- of the bytes s: 12 comes first, then the reader's refusals, then 27
-  pub record IslandJudged (s : List ℕ) (m : ℕ) (r : Judgement) : Type 0 where
+  pub record IslandJudged (s : List ℕ) (m : ℕ) (r : JudgeAnswer) : Type 0 where
     pub short : (length order < step_limit) ⊎ (length cycle < step_limit) → RefusedAs order order' cycle cycle' JudgeBufferShort 0 r
     pub long : step_limit ≤ length order → step_limit ≤ length cycle → OutcomePart (read s) m r

@@ -3,10 +3,10 @@ use Prim.Native.Nat.{ℕ, ◌-◌, ◌≤◌, ◌<◌}
 use native.Mathlib.Decide.{ℕ_discrete, dec_le}
 use native.Mathlib.Omega.{arith}
 use mathlib.Core.Path.{◌≡◌, refl, sym, ap, ◌∙◌}
-use mathlib.Core.Logic.{◌⊎◌, inl, inr}
+use mathlib.Core.Logic.{◌⊎◌, inl, inr, ∥∥₁_elim}
 use mathlib.Core.Bool.{Bool, true}
 use mathlib.Core.List.{List}
-use lib.ListN.{length, get_or, take, drop, length-take, length-append}
+use lib.ListN.{length, get_or, take, drop, length-append}
 use lib.Dec.{eqb}
 use borrow.Author.Tests.{eqb-true, eq-eqb}
 use Rattle.theory.specs.Relative.{Lawful, RelativelySerialOrder, RelativelySerializable}
@@ -19,15 +19,21 @@ use Rattle.theory.proofs.Greedy.{dec_taken, whole_order}
 use Rattle.theory.proofs.Cycles.{stuck_cycle}
 use Rattle.theory.proofs.Theorem.{whole_greedy}
 use Rattle.buffer.specs.Put.{Put}
-use Rattle.book.specs.Format.{step_limit}
 use Rattle.theory.specs.Answers.{Answers}
 use Rattle.dependence.specs.Marks.{Marks}
 use Rattle.dependence.specs.Inner.Tables.{HistoryOf}
 use Rattle.dependence.proofs.Counting.{history_length}
-use Rattle.judge.specs.Judged.{PassedAs, TangledAs}
+use Rattle.judge.specs.Judged.{PassedAs, TangledAs, JudgedAs}
 use Rattle.turns.specs.Inner.Turns.{NoneReady, TakenAs, TurnsTaken}
 use Rattle.turns.specs.Inner.Cycles.{ArcIn, Stuck, CycleIn}
-use Rattle.judge.specs.Inner.Arcs.{ArcTable, JudgedArcs}
+use Rattle.graph.specs.Inner.Arcs.{GraphOf, ArcRows}
+use Rattle.graph.specs.declared.graph.Graph.{Graph}
+use Rattle.judge.specs.Inner.Arcs.{JudgedBy}
+use Rattle.judge.specs.Inner.Names.{EvidenceNamed, EvidenceNamedBy}
+use Rattle.judge.specs.declared.Verdict.{Verdict}
+use Rattle.judge.specs.declared.Judgement.{Judgement}
+use Prim.{IsProp}
+use Rattle.std.proofs.Props.{props}
 use Rattle.turns.specs.declared.Turns.{Turns}
 use Rattle.judge.specs.declared.Verdict.TheVariants.{Passed, Tangled}
 use Rattle.turns.proofs.GreedyTurns.{ready_in}
@@ -35,9 +41,6 @@ use Rattle.turns.proofs.GreedyTurns.{ready_in}
 -- where the turns take n places, they have n
 pub turns_long : (history : List ℕ) (n : ℕ) (arc : List ℕ) (t : Turns) → TurnsTaken history n arc t → t.count ≡ n → length (take n t.order) ≡ n
 turns_long history n arc t ta e = rw (← e) ta.long
-
-pub turns_enough : (history : List ℕ) (n : ℕ) (arc : List ℕ) (t : Turns) → TurnsTaken history n arc t → t.count ≡ n → n ≤ length t.order
-turns_enough history n arc t ta e = omega (arith, length-take n t.order, turns_long history n arc t ta e)
 
 module _ (history : List ℕ) (n : ℕ) (arc : List ℕ) (hs : HistoryOf history n) where
   abbrev h : List ℕ
@@ -143,25 +146,38 @@ module _ (history : List ℕ) (n : ℕ) (arc : List ℕ) (hs : HistoryOf history
           back = back;
         }
 
-pub judge_stuck : (history : List ℕ) (n : ℕ) (arc : List ℕ) (t : Turns) → HistoryOf history n → ArcTable (take n history) arc → TurnsTaken history n arc t
-    → (t.count ≡ n → ⊥) → Stuck arc t.taken n
-judge_stuck history n arc t hs g ta ne = stuck history n arc hs g.conflict g.unit g.marks t ta ne
+-- ---- of a graph
 
--- the turns' first n places fit the buffer
-pub turns_fit : (history : List ℕ) (n : ℕ) (turns order : List ℕ) → HistoryOf history n → step_limit ≤ length order → length (take n turns) ≤ length order
-turns_fit history n turns order hs l = omega (arith, length-take n turns, hs.within)
+module _ (g : Graph) (arc : List ℕ) (rows : ArcRows g arc) where
+  stuck_prop : (taken : List ℕ) → IsProp (Stuck arc taken g.n)
+  stuck_prop taken = hlevel props
 
-pub judge_passed : (history : List ℕ) (n : ℕ) (arc : List ℕ) (t : Turns) (order order' cycle : List ℕ) (k : ℕ) → HistoryOf history n → TurnsTaken history n arc t
-    → t.count ≡ n → Put (take n t.order) order order' k
-    → JudgedArcs (take n history) arc order order' cycle cycle (record { verdict = Passed; count = n })
-judge_passed history n arc t order order' cycle k hs ta e p = record { judged = λ conflict unit law marks. passed_as history n arc hs conflict unit marks t ta law e order order' cycle k p; counted = tt }
+  pub judge_stuck : (t : Turns) → TurnsTaken g.history g.n arc t → (t.count ≡ g.n → ⊥) → Stuck arc t.taken g.n
+  judge_stuck t ta ne = ∥∥₁_elim g.tables (stuck_prop t.taken) (λ a. stuck g.history g.n arc g.stored a.conflict a.unit (rows.marks a) t ta ne)
 
-pub judge_tangled : (history : List ℕ) (n : ℕ) (arc order cycle cycle' : List ℕ) (count : ℕ) → HistoryOf history n → CycleIn arc n cycle cycle' count
-    → JudgedArcs (take n history) arc order order cycle cycle' (record { verdict = Tangled; count = count })
-judge_tangled history n arc order cycle cycle' count hs c = record {
-  judged = λ conflict unit law marks. tangled_as history n arc hs conflict unit marks order cycle cycle' count c;
-  counted = record {
-    inside = omega (arith, c.written.count, ap length c.written.bytes, length-append c.places (drop (length c.places) cycle));
-    few = omega (arith, c.most, hs.within);
-  };
-}
+  pub judge_passed : (t : Turns) (order order' cycle : List ℕ) (k : ℕ) → TurnsTaken g.history g.n arc t → t.count ≡ g.n → Put (take g.n t.order) order order' k
+      → JudgedBy g order order' cycle cycle (record { verdict = Passed; count = g.n })
+  judge_passed t order order' cycle k ta e p = record { judged = λ a law. passed_as g.history g.n arc g.stored a.conflict a.unit (rows.marks a) t ta law e order order' cycle k p; counted = tt }
+
+  pub judge_tangled : (order cycle cycle' : List ℕ) (count : ℕ) → CycleIn arc g.n cycle cycle' count → JudgedBy g order order cycle cycle' (record { verdict = Tangled; count = count })
+  judge_tangled order cycle cycle' count c = record {
+    judged = λ a law. tangled_as g.history g.n arc g.stored a.conflict a.unit (rows.marks a) order cycle cycle' count c;
+    counted = record {
+      inside = omega (arith, c.written.count, ap length c.written.bytes, length-append c.places (drop (length c.places) cycle));
+      few = omega (arith, c.most, g.stored.within);
+    };
+  }
+
+  -- the turns take every place exactly where the history is relatively serializable
+  pub graph_passes : (conflict : ℕ → ℕ → ℕ → ℕ → Bool) (unit : ℕ → ℕ → ℕ → ℕ) (h : List ℕ) → GraphOf conflict unit h g → Lawful conflict → (t : Turns) → TurnsTaken g.history g.n arc t
+      → Answers (RelativelySerializable conflict unit h) (eqb t.count g.n)
+  graph_passes conflict unit h b law t ta = rw (← b.history_is) (passes_by g.history g.n arc g.stored conflict unit (rows.marks (record { conflict = conflict; unit = unit; by = b.tables_are })) t ta law)
+
+-- ---- of a graph of some history
+
+module _ (conflict : ℕ → ℕ → ℕ → ℕ → Bool) (unit : ℕ → ℕ → ℕ → ℕ) (h : List ℕ) (g : Graph) (b : GraphOf conflict unit h g) where
+  pub graph_judged : Lawful conflict → (order order' cycle cycle' : List ℕ) (j : Judgement) → JudgedBy g order order' cycle cycle' j → JudgedAs conflict unit h order order' cycle cycle' j.verdict j.count
+  graph_judged law order order' cycle cycle' j w = rw (← b.history_is) (w.judged (record { conflict = conflict; unit = unit; by = b.tables_are }) law)
+
+  pub graph_named : (cycle values values' : List ℕ) (verdict : Verdict) (count : ℕ) → EvidenceNamedBy g cycle values values' verdict count → EvidenceNamed conflict unit h cycle values values' verdict count
+  graph_named cycle values values' verdict count e = rw (← b.history_is) (e.by (record { conflict = conflict; unit = unit; by = b.tables_are }))

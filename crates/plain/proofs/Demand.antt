@@ -1,4 +1,5 @@
 -- Demand 3 holds of whatever answers and state the plain gate's rules give a list of calls.
+use Rattle.std.specs.Prelude.{Result, Ok, Err}
 use Prim.Native.Nat.{ℕ, zero, suc, ◌≤◌, ◌<◌, zero-le, suc-le-suc}
 use native.Mathlib.Nat.{not-suc-le-zero, le_of_suc-le-suc}
 use native.Mathlib.Omega.{arith}
@@ -22,10 +23,11 @@ use Rattle.book.specs.declared.Cause.TheVariants.{Tangled}
 use Rattle.book.specs.Render.{render}
 use Rattle.book.proofs.RoundTrip.{accepted_book, render_read, render_bytes, read_with_history}
 use Rattle.book.proofs.Histories.{history_book}
-use Rattle.judge.specs.Judged.{JudgedAs}
+use Rattle.judge.specs.Judged.{JudgeAnswer, verdict_of, JudgedAs, JudgementAs}
 use Rattle.judge.specs.Judge.{OutcomeJudged}
+use Rattle.book.specs.declared.Refusal.{Refusal as RefusalValue}
 use Rattle.judge.specs.declared.Verdict.{Verdict}
-use Rattle.judge.specs.declared.Verdict.TheVariants.{Refused, Passed, Tangled as JudgeTangled}
+use Rattle.judge.specs.declared.Verdict.TheVariants.{Passed, Tangled as JudgeTangled}
 use Rattle.plain.specs.Plain.{Call, step, Answer, place, taken_back, refused, State, newly_opened, In, Eligible, Refusal, not_declared, was_withdrawn, all_kept, PlainCall, step_refused, step_tangled, step_kept, withdraw_refused, withdraws, take_back_refused, takes_back, PlainCalls, none, next}
 use Rattle.plain.specs.Demand.{At, here, there, JudgePasses, Withdraws, by_withdrawal, by_take_back, Demand3}
 use Rattle.plain.proofs.PlainGate.{single, not_eligible, single_calls, in_insert, withdrawn_call}
@@ -50,11 +52,14 @@ passing_start c = record {
 
 -- ---- the judge passes what is allowed and relatively serializable
 
-judged_passes : (c : Contents) (k order order' cycle cycle' : List ℕ) → RelativelySerializable (conflict_of c) (unit_of c) k → (v : Verdict) (n : ℕ)
-    → JudgedAs (conflict_of c) (unit_of c) k order order' cycle cycle' v n → v ≡ Passed
-judged_passes c k order order' cycle cycle' s (Refused cause at) n j = absurd j
-judged_passes c k order order' cycle cycle' s Passed n j = refl
-judged_passes c k order order' cycle cycle' s JudgeTangled n j = absurd (j.not_serializable s)
+judged_passes : (c : Contents) (k order order' cycle cycle' : List ℕ) → RelativelySerializable (conflict_of c) (unit_of c) k → (r : JudgeAnswer)
+    → JudgementAs (conflict_of c) (unit_of c) k order order' cycle cycle' r → verdict_of r ≡ Ok Passed
+judged_passes c k order order' cycle cycle' s (Err refusal) j = absurd j
+judged_passes c k order order' cycle cycle' s (Ok a) j = go a.verdict a.count j
+  where
+    go : (v : Verdict) (n : ℕ) → JudgedAs (conflict_of c) (unit_of c) k order order' cycle cycle' v n → ◌≡◌ {A = Result Verdict RefusalValue} (Ok v) (Ok Passed)
+    go Passed n j = refl
+    go JudgeTangled n j = absurd (j.not_serializable s)
 
 judge_passes : (s : List ℕ) (c : Contents) → Bytes s → read s ≡ accepted c → (k : List ℕ) → Passing c k → JudgePasses s c k
 judge_passes s c bytes e k w = record {
@@ -63,7 +68,7 @@ judge_passes s c bytes e k w = record {
   reads = reads;
   passes = λ order order' cycle cycle' r m n j.
       let o : OutcomeJudged order order' cycle cycle' (accepted (with_history c k)) r = rw reads at (j.long m n) in
-      judged_passes c k order order' cycle cycle' w.passed r.verdict r.count o;
+      judged_passes c k order order' cycle cycle' w.passed r o;
 }
   where
     reads : read (render (with_history c k)) ≡ accepted (with_history c k)

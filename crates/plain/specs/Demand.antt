@@ -1,14 +1,14 @@
 -- Demand 3 (with document 02, change 7): what holds after a list of step, withdraw and take back calls made in turn on a gate newly opened over an
 -- accepted book.
-use Rattle.std.specs.Prelude.{ℕ, zero, suc, ◌≤◌, ◌<◌, ◌≡◌, ◌↔◌, List, [], ◌∷◌, ◌++◌, length, take}
+use Rattle.std.specs.Prelude.{Ok, ℕ, zero, suc, ◌≤◌, ◌<◌, ◌≡◌, ◌↔◌, List, [], ◌∷◌, ◌++◌, length, take}
 use Rattle.theory.specs.Relative.{RelativelySerializable}
 use Rattle.book.specs.Format.{Bytes, Contents, accepted, step_limit, read, with_history}
 use Rattle.book.specs.Meaning.{conflict_of, unit_of}
 use Rattle.book.specs.Numbers.{number}
 use Rattle.book.specs.declared.Cause.TheVariants.{Tangled}
 use Rattle.book.specs.Render.{render}
+use Rattle.judge.specs.Judged.{JudgeAnswer, verdict_of}
 use Rattle.judge.specs.Judge.{BytesJudged}
-use Rattle.judge.specs.declared.Judgement.{Judgement}
 use Rattle.judge.specs.declared.Verdict.TheVariants.{Passed}
 use Rattle.plain.specs.Plain.{Call, step, withdraw, take_back, Answer, place, withdrawn, taken_back, refused, State, newly_opened, Eligible, PlainCalls}
 
@@ -25,8 +25,8 @@ pub record JudgePasses (s : List ℕ) (c : Contents) (k : List ℕ) : Type 0 whe
   pub bytes : Bytes (render (with_history c k))
   pub reads : read (render (with_history c k)) ≡ accepted (with_history c k)
   -- and on them, with buffers as long as the judge asks, each judgement that meets the judge's contract is "passed"
-  pub passes : (order order' cycle cycle' : List ℕ) (r : Judgement) → step_limit ≤ length order → step_limit ≤ length cycle
-      → BytesJudged order order' cycle cycle' (render (with_history c k)) r → r.verdict ≡ Passed
+  pub passes : (order order' cycle cycle' : List ℕ) (r : JudgeAnswer) → step_limit ≤ length order → step_limit ≤ length cycle
+      → BytesJudged order order' cycle cycle' (render (with_history c k)) r → verdict_of r ≡ Ok Passed
 
 -- m is the plain gate's state at the moment when call i is made
 pub record Moment (c : Contents) (calls : List Call) (i : ℕ) (m : State) : Type 0 where

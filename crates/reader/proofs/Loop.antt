@@ -4,31 +4,23 @@ use mathlib.Core.Path.{◌≡◌, refl, ap, sym, ◌∙◌, subst}
 use mathlib.Core.List.{List}
 use native.Mathlib.Omega.{arith}
 use borrow.Author.Tests.{le-leb, lt-leb}
-use mir.Val.{Fits}
-use mir.Syntax.{w8}
 use lib.ListN.{length, get_or, set}
 use lib.Seq.{get_or-set_same}
-use Rattle.book.specs.Format.{run_limit, run_step_limit, step_limit, length_limit, Contents, Move, Outcome, on, over, refused, accepted, follow, width, group_of, effect, obeyed, ReadState, pair, run, step, cut, done, command_at, read_from, read_commands, read_by, Command}
-use Rattle.book.specs.Book.{pairs_size, cuts_size, pair_of, cut_of, step_coded, set_runs, set_history, contents_of, empty_book, Fitting, Represents, ReadAs}
+use Rattle.book.specs.Format.{step_limit, length_limit, Contents, Move, Outcome, on, over, refused, accepted, follow, width, group_of, effect, obeyed, ReadState, pair, run, step, cut, done, command_at, read_from, read_commands, read_by, Command}
+use Rattle.book.specs.Book.{pairs_size, cuts_size, pair_of, cut_of, step_coded, set_runs, set_history, refusal_at, contents_of, empty_book, Fitting, Represents, ReadAs}
 use Rattle.book.specs.Inner.Room.{Next, RoomStep, RoomDone}
-use Rattle.reader.specs.Inner.Reader.{at_start, past_pair, past_run, past_step, past_cut, past_done, accepted_as, so_far, read_state_of, Underway, Tables, move_of, Room, width_of, MayTake, CommandReadAs}
+use Rattle.reader.specs.Inner.Reader.{at_start, past_pair, past_run, past_step, past_cut, past_done, so_far, read_state_of, Underway, Tables, Parsed, move_of, Room, width_of, MayTake, CommandReadAs}
 use Rattle.book.specs.declared.Rules.{Rules}
-use Rattle.book.specs.declared.Cause.{Cause}
+use Rattle.std.proofs.Common.{Result, Ok, Err}
+use Rattle.book.specs.declared.Refusal.{Refusal}
 use Rattle.book.specs.declared.Cause.TheVariants.{BookTooLong}
 use Rattle.book.proofs.FormatLaws.{width_positive}
 use Rattle.book.specs.declared.Book.{Book}
 use Rattle.reader.specs.declared.Progress.{Progress}
-use Rattle.reader.specs.declared.Parsed.{Parsed}
-use Rattle.reader.specs.declared.Parsed.TheVariants.{Pair, Run, Step, Cut, Done, End, Refused}
-use Rattle.book.specs.declared.Answer.TheVariants.{Refused as No}
-use Rattle.book.specs.declared.Reading.{Reading}
+use Rattle.reader.specs.declared.Command.TheVariants.{Pair, Run, Step, Cut, Done, End}
 use Rattle.book.proofs.Groups.{next_more}
 use Rattle.book.proofs.Books.{with_pair, with_cut, represents_pair, represents_run, represents_step, represents_cut, represents_done, done_below_steps}
 use Rattle.book.proofs.Empty.{represents_empty, next_empty_pairs, next_empty_cuts, empty_counted}
-
--- a refusal with the empty book
-pub refused_as : (cause : Cause) (place : ℕ) (b : Book) → b ≡ empty_book → ReadAs (refused cause place) (record { answer = No cause place; book = b })
-refused_as cause place b e = record { outcome = refl; valid = rw e represents_empty.valid; empty = λ k q d. e }
 
 -- the tables, the offset and the progress are those of the format's reader, which has yet to read what makes the whole outcome
 pub record Rest (ρ : Rules) (s : List ℕ) (b : Book) (at : ℕ) (p : Progress) : Type 0 where
@@ -101,9 +93,6 @@ module _ (ρ : Rules) (s : List ℕ) (b : Book) (at : ℕ) (p : Progress) (c : P
   stops o e zero n r = absurd (omega arith)
   stops o e (suc k) n r = ap (λ (m : Move). follow m (read_from ρ k s)) (sym e) ∙ r
 
-  less : (d : Parsed) → c ≡ d → 0 < width_of d → length s - next < length s - at
-  less d e l = omega (arith, offset d e, ends)
-
   -- the next turn, behind the command d, which is the format's f, by what the book holds then
   turn : (d : Parsed) (f : Command) → c ≡ d → ((t : ReadState) → move_of d at t ≡ obeyed f at t) → (b' : Book) (q : Progress) → Represents (effect f (contents_of (so_far b p))) (so_far b' q)
       → q.group ≡ group_of f → q.group ≤ 3 → q.rules ≡ p.rules → Next b'.pairs q.next_pair → Next b'.cuts q.next_cut → (0 < q.declared → q.last ≡ get_or b'.lengths (q.declared - 1) 0) → width_of d ≡ width f → 0 < width f → Rest ρ s b' next q
@@ -114,114 +103,75 @@ module _ (ρ : Rules) (s : List ℕ) (b : Book) (at : ℕ) (p : Progress) (c : P
       same : {n n' j j' : ℕ} {x x' : Contents} → n ≡ n' → j ≡ j' → x ≡ x' → on n (record { group = j; contents = x }) ≡ on n' (record { group = j'; contents = x' })
       same e₁ e₂ e₃ = rw (e₁, e₂, e₃)
 
-  module _ (x : ℕ) (e : c ≡ Pair x) where
+  module _ (x : ℕ) (e : c ≡ Ok (Pair x)) where
     pub pair_low : x < pairs_size
-    pair_low = (room (Pair x) e).low
+    pair_low = (room (Ok (Pair x)) e).low
 
     pub pair_again : (q : Progress) → q ≡ past_pair p x → Rest ρ s (with_pair b x) next q
-    pair_again q f = rw f (turn (Pair x) (pair (pair_of x)) e (λ t. refl) (with_pair b x) (past_pair p x)
-        (represents_pair (so_far b p) p.next_pair x i.underway.valid i.underway.pairs (room (Pair x) e)) refl (omega arith) refl
-        (next_more b.pairs p.next_pair x i.underway.pairs (room (Pair x) e).rising (omega (arith, pair_low, i.underway.valid.pairs.long))) i.underway.cuts i.underway.last refl (omega arith))
+    pair_again q f = rw f (turn (Ok (Pair x)) (pair (pair_of x)) e (λ t. refl) (with_pair b x) (past_pair p x)
+        (represents_pair (so_far b p) p.next_pair x i.underway.valid i.underway.pairs (room (Ok (Pair x)) e)) refl (omega arith) refl
+        (next_more b.pairs p.next_pair x i.underway.pairs (room (Ok (Pair x)) e).rising (omega (arith, pair_low, i.underway.valid.pairs.long))) i.underway.cuts i.underway.last refl (omega arith))
 
-    pub pair_less : length s - next < length s - at
-    pair_less = less (Pair x) e (omega arith)
-
-  module _ (x : ℕ) (e : c ≡ Cut x) where
+  module _ (x : ℕ) (e : c ≡ Ok (Cut x)) where
     pub cut_low : x < cuts_size
-    cut_low = (room (Cut x) e).low
+    cut_low = (room (Ok (Cut x)) e).low
 
     pub cut_again : (q : Progress) → q ≡ past_cut p x → Rest ρ s (with_cut b x) next q
-    cut_again q f = rw f (turn (Cut x) (cut (cut_of x)) e (λ t. refl) (with_cut b x) (past_cut p x)
-        (represents_cut (so_far b p) p.next_cut x i.underway.valid i.underway.cuts (room (Cut x) e)) refl (omega arith) refl
-        i.underway.pairs (next_more b.cuts p.next_cut x i.underway.cuts (room (Cut x) e).rising (omega (arith, cut_low, i.underway.valid.cuts.long))) i.underway.last refl (omega arith))
+    cut_again q f = rw f (turn (Ok (Cut x)) (cut (cut_of x)) e (λ t. refl) (with_cut b x) (past_cut p x)
+        (represents_cut (so_far b p) p.next_cut x i.underway.valid i.underway.cuts (room (Ok (Cut x)) e)) refl (omega arith) refl
+        i.underway.pairs (next_more b.cuts p.next_cut x i.underway.cuts (room (Ok (Cut x)) e).rising (omega (arith, cut_low, i.underway.valid.cuts.long))) i.underway.last refl (omega arith))
 
-    pub cut_less : length s - next < length s - at
-    cut_less = less (Cut x) e (omega arith)
-
-  module _ (e : c ≡ Run) where
-    pub run_low : p.declared < run_limit
-    run_low = room Run e
-
+  module _ (e : c ≡ Ok Run) where
     pub run_again : (q : Progress) → q ≡ past_run p → Rest ρ s b next q
-    run_again q f = rw f (turn Run (run 0) e (λ t. refl) b (past_run p) (represents_run (so_far b p) 0 i.underway.valid (room Run e)) refl (omega arith) refl
+    run_again q f = rw f (turn (Ok Run) (run 0) e (λ t. refl) b (past_run p) (represents_run (so_far b p) 0 i.underway.valid (room (Ok Run) e)) refl (omega arith) refl
         i.underway.pairs i.underway.cuts (λ l. sym (i.underway.valid.runs.lengths.blank (p.declared + 1 - 1) (omega arith))) refl (omega arith))
 
-    pub run_less : length s - next < length s - at
-    run_less = less Run e (omega arith)
-
-  module _ (n m : ℕ) (e : c ≡ Step n m) where
+  module _ (n m : ℕ) (e : c ≡ Ok (Step n m)) where
     step_wide : m ≡ width (step (step_coded n))
-    step_wide = (room (Step n m) e).wide
+    step_wide = (room (Ok (Step n m)) e).wide
 
     step_room : RoomStep b.lengths p.declared p.total n
-    step_room = (room (Step n m) e).room
-
-    pub step_declared : 1 ≤ p.declared
-    step_declared = omega (arith, step_room.declared)
-
-    pub step_run : p.declared - 1 < run_limit
-    step_run = omega (arith, step_room.declared, i.underway.valid.runs.few_runs)
-
-    pub step_few : p.total < step_limit
-    step_few = step_room.few
+    step_room = (room (Ok (Step n m)) e).room
 
     step_last : p.last ≡ get_or b.lengths (p.declared - 1) 0
     step_last = i.underway.last step_room.declared
 
-    pub step_short : p.last < run_step_limit
-    step_short = rw step_last step_room.short
-
-    pub step_fits : Fits w8 (p.last + 1)
-    step_fits = omega (arith, step_short)
-
     pub step_again : (q : Progress) → q ≡ past_step p → Rest ρ s (with_step_at b p.total (p.declared - 1) (p.last + 1) n) next q
-    step_again q f = rw f (turn (Step n m) (step (step_coded n)) e (λ t. rw step_wide) (with_step_at b p.total (p.declared - 1) (p.last + 1) n) (past_step p)
+    step_again q f = rw f (turn (Ok (Step n m)) (step (step_coded n)) e (λ t. rw step_wide) (with_step_at b p.total (p.declared - 1) (p.last + 1) n) (past_step p)
         (rw step_last (represents_step (so_far b p) n i.underway.valid step_room)) refl (omega arith) refl i.underway.pairs i.underway.cuts
         (λ l. sym (get_or-set_same b.lengths (p.declared - 1) (p.last + 1) 0 (omega (arith, step_room.declared, i.underway.valid.runs.few_runs, i.underway.valid.runs.lengths.long))))
         step_wide (width_positive (step (step_coded n))))
 
-    pub step_less : length s - next < length s - at
-    step_less = less (Step n m) e (rw step_wide (width_positive (step (step_coded n))))
-
-  module _ (r : ℕ) (e : c ≡ Done r) where
+  module _ (r : ℕ) (e : c ≡ Ok (Done r)) where
     done_room : RoomDone b.lengths b.counts p.declared r
-    done_room = room (Done r) e
+    done_room = room (Ok (Done r)) e
 
     pub done_low : p.done < step_limit
     done_low = omega (arith, done_below_steps (so_far b p) r i.underway.valid done_room, i.underway.valid.runs.few_steps)
 
-    pub done_run : (n : ℕ) → n ≡ r → n < run_limit
-    done_run n d = omega (arith, done_room.declared, i.underway.valid.runs.few_runs)
-
-    pub done_fits : (n : ℕ) → n ≡ r → Fits w8 (get_or b.counts n 0 + 1)
-    done_fits n d = rw d (omega (arith, done_room.left, i.underway.valid.runs.lengths.small r))
-
     pub done_again : (n : ℕ) (q : Progress) → n ≡ r → q ≡ past_done p → Rest ρ s (with_done_at b p.done n r) next q
-    done_again n q d f = rw (d, f) (turn (Done r) (done r) e (λ t. refl) (with_done_at b p.done r r) (past_done p)
+    done_again n q d f = rw (d, f) (turn (Ok (Done r)) (done r) e (λ t. refl) (with_done_at b p.done r r) (past_done p)
         (represents_done (so_far b p) r i.underway.valid done_room) refl (omega arith) refl i.underway.pairs i.underway.cuts i.underway.last refl (omega arith))
 
-    pub done_less : length s - next < length s - at
-    done_less = less (Done r) e (omega arith)
-
 -- the book's length is tested first
-pub long_refused : (ρ : Rules) (s : List ℕ) (r : Reading) → ρ.length_limit < length s → ReadAs (refused BookTooLong 0) r → ReadAs (read_by ρ s) r
+pub long_refused : (ρ : Rules) (s : List ℕ) (r : Result Book Refusal) → ρ.length_limit < length s → r ≡ Err (refusal_at BookTooLong 0) → ReadAs (read_by ρ s) r
 unfolding read_by
-long_refused ρ s r h g = rw (lt-leb _ _ h) g
+long_refused ρ s r h e = rw (e, lt-leb _ _ h) refl
 
-pub short_read : (ρ : Rules) (s : List ℕ) (r : Reading) → length s ≤ ρ.length_limit → ReadAs (read_commands ρ s) r → ReadAs (read_by ρ s) r
+short_read : (ρ : Rules) (s : List ℕ) → length s ≤ ρ.length_limit → read_commands ρ s ≡ read_by ρ s
 unfolding read_by
-short_read ρ s r h g = rw (le-leb _ _ h) g
+short_read ρ s h = rw (le-leb _ _ h) refl
 
 -- the loop ends; p₀ is the progress at its beginning
-module _ (ρ : Rules) (s : List ℕ) (b : Book) (at : ℕ) (p₀ p : Progress) (c : Parsed) (next : ℕ) (r : Reading) (o : p₀ ≡ at_start ρ) (i : Rest p₀.rules s b at p)
-    (w : CommandReadAs b.lengths b.counts s at p c next) where
-  whole : (o' : Outcome) → command_at p₀.rules s at (read_state_of b p) ≡ over o' → o' ≡ read_commands ρ s
-  whole o' e = stops p₀.rules s b at p c next i w o' e i.fuel i.enough i.rest ∙ ap (λ (q : Progress). read_commands q.rules s) o
+module _ (ρ : Rules) (s : List ℕ) (b : Book) (at : ℕ) (p₀ p : Progress) (c : Parsed) (next : ℕ) (o : p₀ ≡ at_start ρ) (i : Rest p₀.rules s b at p)
+    (w : CommandReadAs b.lengths b.counts s at p c next) (h : length s ≤ ρ.length_limit) where
+  whole : (o' : Outcome) → command_at p₀.rules s at (read_state_of b p) ≡ over o' → o' ≡ read_by ρ s
+  whole o' e = stops p₀.rules s b at p c next i w o' e i.fuel i.enough i.rest ∙ ap (λ (q : Progress). read_commands q.rules s) o ∙ short_read ρ s h
 
-  pub ends_refused : (cause : Cause) (place : ℕ) → c ≡ Refused cause place → ReadAs (refused cause place) r → ReadAs (read_commands ρ s) r
-  ends_refused cause place e g = rw (← whole (refused cause place) (moves p₀.rules s b at p c next i w (Refused cause place) e)) g
+  pub ends_refused : (x : Refusal) → c ≡ Err x → ReadAs (read_by ρ s) (Err x)
+  ends_refused x e = rw (← whole (refused x.cause x.place) (moves p₀.rules s b at p c next i w (Err x) e)) refl
 
-  pub ends_accepted : c ≡ End → r ≡ accepted_as b p → ReadAs (read_commands ρ s) r
-  ends_accepted e f =
-      rw (f, ← whole (accepted (contents_of (so_far b p))) (moves p₀.rules s b at p c next i w End e))
-      (record { outcome = refl; valid = i.underway.valid; empty = λ k q d. let z : ◌≡◌ {A = ℕ} 0 1 = cc in absurd (omega arith) })
+  pub ends_accepted : (d : Book) → c ≡ Ok End → d ≡ so_far b p → ReadAs (read_by ρ s) (Ok d)
+  ends_accepted d e f =
+      rw (f, ← whole (accepted (contents_of (so_far b p))) (moves p₀.rules s b at p c next i w (Ok End) e))
+      (record { outcome = refl; valid = i.underway.valid })

@@ -1,14 +1,14 @@
 -- A whole list of calls in bytes on a gate newly opened over a book, and its answers in bytes. The byte forms are this call's own.
-use Rattle.std.specs.Prelude.{ℕ, ◌+◌, ◌*◌, ◌≡◌, ◌≢◌, Bool, ◌||◌, List, [], ◌∷◌, ◌++◌, length, take, drop, eqb, leb}
+use Rattle.std.specs.Prelude.{Result, Ok, Err, ℕ, ◌+◌, ◌*◌, ◌≡◌, ◌≢◌, Bool, ◌||◌, List, [], ◌∷◌, ◌++◌, length, take, drop, eqb, leb}
 use Rattle.book.specs.Format.{Contents, Outcome, pick, read, refused as book_refused, accepted as book_accepted}
-use Rattle.book.specs.Numbers.{Numbers, refused_with, value_of}
+use Rattle.book.specs.Numbers.{Numbers, numbers_of}
+use Rattle.book.specs.Book.{refusal_at}
+use Rattle.book.specs.declared.Refusal.{Refusal}
 use Rattle.book.specs.declared.Cause.TheVariants.{NoCall, AnswersShort}
 use Rattle.plain.specs.Plain.{Call, step, withdraw, take_back, Answer, place, withdrawn, taken_back, refused, State, newly_opened, PlainCalls}
 use Rattle.plain.specs.Demand.{Demand3}
 use Rattle.gate.specs.Gate.{book_of, state_of, opened_book, Sound}
 use Rattle.gate.specs.declared.Gate.{Gate}
-use Rattle.replay.specs.declared.Played.{Played}
-use Rattle.replay.specs.declared.Played.TheVariants.{Refused, Done}
 use Rattle.replay.specs.declared.Replayed.{Replayed}
 
 -- two bytes a call (hexadecimal): 53 r steps run r, 57 r withdraws it, 54 r takes it back
@@ -49,19 +49,22 @@ answers_in [] = []
 answers_in (k ∷ []) = []
 answers_in (k ∷ x ∷ bs) = answer_in k x ∷ answers_in bs
 
+-- a refusal, or the number of calls made
+abbrev pub Played : Type 0
+Played = Result ℕ Refusal
+
 -- each case in numbers: the number of calls made
 abbrev pub played_numbers : Played → Numbers
-played_numbers (Refused cause at) = refused_with cause at
-played_numbers (Done n) = value_of n
+played_numbers = numbers_of (λ n. n)
 
 -- the answer for the calls bs and a buffer of n bytes, of the outcome of reading the book: the book's refusals come first,
 -- then 24 at its offset of the list, then 25
 abbrev pub played_by : Outcome → List ℕ → ℕ → Played
-played_by (book_refused cause at) bs n = Refused cause at
+played_by (book_refused cause at) bs n = Err (refusal_at cause at)
 played_by (book_accepted c) bs n =
     pick (eqb (bad_at 0 bs) (length bs))
-    (pick (leb (2 * length (calls_of bs)) n) (Done (length (calls_of bs))) (Refused AnswersShort 0))
-    (Refused NoCall (bad_at 0 bs))
+    (pick (leb (2 * length (calls_of bs)) n) (Ok (length (calls_of bs))) (Err (refusal_at AnswersShort 0)))
+    (Err (refusal_at NoCall (bad_at 0 bs)))
 
 -- nothing is changed: the buffer's bytes are as before, and the gate is newly opened
 pub record Unchanged (before after : List ℕ) (g : Gate) : Type 0 where
@@ -80,5 +83,5 @@ pub record Replays (s bs before after : List ℕ) (r : Replayed) : Type 0 where
   pub played : r.played ≡ played_by (read s) bs (length before)
   pub book : book_of r.gate ≡ opened_book (read s)
   pub sound : Sound r.gate
-  pub refused_unchanged : ((n : ℕ) → r.played ≢ Done n) → Unchanged before after r.gate
-  pub calls_made : (c : Contents) (n : ℕ) → read s ≡ book_accepted c → r.played ≡ Done n → CallsMade s c bs before after r.gate
+  pub refused_unchanged : ((n : ℕ) → r.played ≢ Ok n) → Unchanged before after r.gate
+  pub calls_made : (c : Contents) (n : ℕ) → read s ≡ book_accepted c → r.played ≡ Ok n → CallsMade s c bs before after r.gate

@@ -1,115 +1,72 @@
 // The replay of a whole list of calls, in bytes, on a gate newly opened over a book.
 #![tactic(auto)]
 
-ghost use Rattle.std.specs.Prelude.{◌≡◌};
-ghost use Rattle.gate.specs.Gate.{CalledAs};
-ghost use Rattle.replay.specs.Replay.{is_call, call_of, calls_of, bad_at, Replays};
-ghost use Rattle.replay.specs.Inner.Calls.{Low, BytesOf, AnswersRoom, Plays};
+ghost use Rattle.std.specs.Prelude.{◌≡◌, ◌<◌, true, false, length, MatchOption};
+ghost use Rattle.gate.specs.Gate.{as_call, answer_of};
+ghost use Rattle.replay.specs.Replay.{is_call, call_of, calls_of, bad_at, answer_bytes, Replays};
+ghost use Rattle.replay.specs.Inner.Calls.{Low, AnswersRoom, Plays};
 
-use book::{Answer, Cause};
-use gate::{Called, Gate, Reply};
+use book::{Cause, Refusal};
+use gate::{Call, Gate, Reply};
 
-// Whether the first byte of a call is one: 0x53 for a step, 0x57 for a withdrawal, 0x54 for a take-back.
-fn is_call(op: u8) -> bool
-    ensures { result ≡ is_call op }
+// One call in two bytes: 0x53 and a run steps it, 0x57 and a run withdraws it, 0x54 and a run takes it back; no other byte is a call's first.
+fn call_of(op: u8, run: u8) -> Option<Call>
+    ensures { MatchOption result (is_call op ≡ false) (λ x. (is_call op ≡ true) × (as_call x ≡ call_of op run)) }
 {
-    (op == 0x53) | (op == 0x57) | (op == 0x54)
-}
-
-// One call in two bytes: 0x53 and a run steps it, 0x57 and a run withdraws it, 0x54 and a run takes it back.
-fn call_value(g: Gate, op: u8, r: u8) -> Called
-    ensures { CalledAs g (call_of op r) result.answer result.gate }
-{
-    if op == 0x53 {
-        return gate::after_step(g, r);
+    match op {
+        0x53 => Some(Call::Step(run)),
+        0x57 => Some(Call::Withdraw(run)),
+        0x54 => Some(Call::TakeBack(run)),
+        _ => None,
     }
-    if op == 0x57 {
-        return gate::after_withdraw(g, r);
-    }
-    gate::after_take_back(g, r)
 }
 
 // The two bytes of an answer: 0 and the place, 1 and 0 for "withdrawn", 2 and a refusal's number, 3 and 0 for "taken back".
-#[derive(Clone, Copy)]
-struct AnswerBytes {
-    first: u8,
-    second: u8,
-}
-
-fn answer_bytes(a: Reply) -> AnswerBytes
+fn answer_bytes(a: Result<Reply, Cause>) -> [u8; 2]
     requires { Low a }
-    ensures { BytesOf a result }
+    ensures { result ≡ answer_bytes (answer_of a) }
 {
     match a {
-        Reply::Place(p) => AnswerBytes {
-            first: 0,
-            second: p as u8,
-        },
-        Reply::Withdrawn => AnswerBytes {
-            first: 1,
-            second: 0,
-        },
-        Reply::TakenBack => AnswerBytes {
-            first: 3,
-            second: 0,
-        },
-        Reply::Refused(cause) => AnswerBytes {
-            first: 2,
-            second: book::number_of(cause),
-        },
+        Ok(Reply::Place(p)) => [0, p as u8],
+        Ok(Reply::Withdrawn) => [1, 0],
+        Ok(Reply::TakenBack) => [3, 0],
+        Err(cause) => [2, book::number_of(cause)],
     }
 }
 
-// The offset of the first call that is none of 0x53, 0x57 and 0x54, or is cut off; the length where there is none.
-fn bad_call(calls: &[u8]) -> usize
-    ensures { result ≡ bad_at 0 calls.now }
+// The offset of the first call that is none of 0x53, 0x57 and 0x54, or is cut off, if there is one.
+fn bad_call(calls: &[u8]) -> Option<usize>
+    ensures { MatchOption result (bad_at 0 calls.now ≡ length calls.now) (λ at. (at ≡ bad_at 0 calls.now) × (at < length calls.now)) }
 {
-    let mut at = 0;
-    while at < calls.len() {
-        if calls.len() - at < 2 {
-            return at;
-        }
-        if is_call(calls[at]) {
-            at += 2;
-        } else {
-            return at;
+    let (pairs, rest) = calls.as_chunks::<2>();
+    for (i, [op, run]) in pairs.iter().enumerate() {
+        if call_of(*op, *run).is_none() {
+            return Some(2 * i);
         }
     }
-    at
+    if rest.is_empty() {
+        None
+    } else {
+        Some(2 * pairs.len())
+    }
 }
 
 // Makes the calls in turn on the one record, and puts their answers into the buffer.
-fn play(g: Gate, calls: &[u8], answers: &mut [u8]) -> Gate
-    requires { AnswersRoom g (calls_of calls.now) answers.old }
-    ensures { Plays g (calls_of calls.now) answers.old answers.new result }
+fn play(g: &mut Gate, calls: &[u8], answers: &mut [u8])
+    requires room { AnswersRoom g.old (calls_of calls.now) answers.old }
+    requires whole { bad_at 0 calls.now ≡ length calls.now }
+    ensures { Plays g.old (calls_of calls.now) answers.old answers.new g.new }
 {
-    let mut h = g;
-    let n = calls.len() / 2;
-    let mut i = 0;
-    while i < n {
-        let at = i * 2;
-        let next = at + 1;
-        let op = calls[at];
-        let run = calls[next];
-        let called = call_value(h, op, run);
-        let answer = called.answer;
-        let bytes = answer_bytes(answer);
-        answers[at] = bytes.first;
-        answers[next] = bytes.second;
-        h = called.gate;
-        i += 1;
+    let (pairs, _) = calls.as_chunks::<2>();
+    for (i, [op, run]) in pairs.iter().enumerate() {
+        let x = call_of(*op, *run).unwrap();
+        let reply = g.call(x);
+        answers[2 * i..2 * i + 2].copy_from_slice(&answer_bytes(reply));
     }
-    h
 }
 
-// What a replay answers.
-#[derive(Clone, Copy)]
-pub enum Played {
-    // The cause; its place in the book, or for 24 its offset in the list.
-    Refused(Cause, usize),
-    // All calls are made, so many.
-    Done(usize),
-}
+// What a replay answers: how many calls are made, all of the list; or the refusal, with its place in the book, or for 24 its offset in the list.
+pub type Played = Result<usize, Refusal>;
 
 // The answer, and the record as the last call left it; where the replay is refused, as opening left it.
 #[derive(Clone, Copy)]
@@ -123,35 +80,19 @@ pub fn replay(book: &[u8], calls: &[u8], answers: &mut [u8]) -> Replayed
     ensures { Replays book.now calls.now answers.old answers.new result }
 {
     let opened = gate::open(book);
-    let answer = opened.answer;
-    let g = opened.gate;
-    match answer {
-        Answer::Refused(cause, place) => {
-            return Replayed {
-                played: Played::Refused(cause, place),
-                gate: g,
-            };
-        }
-        Answer::Accepted => {
-            let at = bad_call(calls);
-            if at != calls.len() {
-                return Replayed {
-                    played: Played::Refused(Cause::NoCall, at),
-                    gate: g,
-                };
+    let mut gate = opened.gate;
+    let played = match opened.answer {
+        Err(refusal) => Err(refusal),
+        Ok(()) => {
+            if let Some(at) = bad_call(calls) {
+                book::refused(Cause::NoCall, at)
+            } else if answers.len() < calls.len() {
+                book::refused(Cause::AnswersShort, 0)
+            } else {
+                play(&mut gate, calls, answers);
+                Ok(calls.len() / 2)
             }
-            let n = calls.len() / 2;
-            if answers.len() < calls.len() {
-                return Replayed {
-                    played: Played::Refused(Cause::AnswersShort, 0),
-                    gate: g,
-                };
-            }
-            let h = play(g, calls, answers);
-            return Replayed {
-                played: Played::Done(n),
-                gate: h,
-            };
         }
-    }
+    };
+    Replayed { played, gate }
 }

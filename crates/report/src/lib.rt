@@ -1,19 +1,22 @@
 // The report on a book: the program's text, put into a buffer that the caller lends. Each function that puts bytes answers how many.
 #![tactic(auto)]
 
-ghost use Rattle.std.specs.Prelude.{◌≡◌, false, [], ◌∷◌, ◌++◌, map, ◌+◌, ◌*◌, ◌<◌, ◌≤◌, length};
+ghost use Rattle.std.specs.Prelude.{◌≡◌, ℕ, List, [], ◌∷◌, ◌++◌, map, ◌+◌, ◌*◌, ◌<◌, ◌≤◌, length};
 ghost use Rattle.buffer.specs.Put.{Put};
+ghost use Rattle.buffer.specs.Each.{each};
 ghost use Rattle.book.specs.Format.{accepted, read, step_limit};
 ghost use Rattle.book.specs.Book.{Valid, contents_of};
+ghost use Rattle.book.specs.Numbers.{number};
 ghost use Rattle.report.specs.Letters.{blank};
-ghost use Rattle.report.specs.Text.{tangled, refused_at, accepted_with, text_of, decimal, answer_word, numbers, first_letter, line, done_line, arcs_line};
+ghost use Rattle.report.specs.Text.{tangled, refused_at, accepted_with, text_of, decimal, answer_word, first_letter, line, done_line};
 ghost use Rattle.report.specs.Reporting.{ClassesOn, Reports};
-ghost use Rattle.report.specs.Inner.Widths.{number_digits, number_limit, place_digits, number_width, answer_width, done_width, classes_width, verdict_width, evidence_width, letter_width, arcs_width, refused_width, text_limit};
-ghost use Rattle.report.specs.Inner.Lines.{PutWithin, class_lines, is_passed, names_of_value, value_letters, verdict_by, verdict_lines, findings};
+ghost use Rattle.report.specs.Inner.Widths.{number_limit, number_width, answer_width, done_width, classes_width, verdict_width, evidence_width, letter_width, arcs_width, refused_width, text_limit};
+ghost use Rattle.report.specs.Inner.Lines.{PutWithin, class_lines, names_of_value, Short, verdict_by, EvidenceIn, verdict_lines, findings};
 
-use book::{Answer, Book};
+use book::{Book, Refusal};
 use buffer::{put_byte, put_bytes};
-use judge::Verdict;
+use judge::{Judgement, Verdict};
+use names::ArcNames;
 
 // How many bytes each line takes at most: its head, its word or numbers, and the line end.
 const DONE_WIDTH: usize = 5 + 3 + 1;
@@ -51,6 +54,13 @@ struct Classes {
     conflict: bool,
 }
 
+// The evidence of a verdict: the order's run numbers, or the cycle's places and the value of the names of each of its arcs.
+#[derive(Clone, Copy)]
+enum Evidence<'a> {
+    Order(&'a [u8]),
+    Cycle { places: &'a [u8], values: &'a [u8] },
+}
+
 // A number in base ten: all digits but the last, then the last.
 fn put_decimal(x: usize, out: &mut [u8]) -> usize
     requires { length (decimal x) ≤ length out.old }
@@ -64,39 +74,14 @@ fn put_decimal(x: usize, out: &mut [u8]) -> usize
     k + m
 }
 
-// A head and a number below 1,000.
+// A head and a number.
 fn put_number(head: &[u8], x: usize, out: &mut [u8]) -> usize
-    requires { (x < number_limit) × (length head.now + number_digits ≤ length out.old) }
-    ensures { PutWithin (length head.now + number_digits) (head.now ++ decimal x) out.old out.new result }
+    requires { length head.now + length (decimal x) ≤ length out.old }
+    ensures { Put (head.now ++ decimal x) out.old out.new result }
 {
     let n = put_bytes(head, &mut out[..]);
     let m = put_decimal(x, &mut out[n..]);
     n + m
-}
-
-// A head and a place of any book.
-fn put_place(head: &[u8], x: usize, out: &mut [u8]) -> usize
-    requires { length head.now + place_digits ≤ length out.old }
-    ensures { PutWithin (length head.now + place_digits) (head.now ++ decimal x) out.old out.new result }
-{
-    let n = put_bytes(head, &mut out[..]);
-    let m = put_decimal(x, &mut out[n..]);
-    n + m
-}
-
-// A blank and a number for each of the list.
-fn put_numbers(list: &[u8], out: &mut [u8]) -> usize
-    requires { number_width * length list.now ≤ length out.old }
-    ensures { PutWithin (number_width * length list.now) (numbers list.now) out.old out.new result }
-{
-    let mut at: usize = 0;
-    let mut i: usize = 0;
-    while i < list.len() {
-        let n = put_number(b" ", book::wide(list[i]), &mut out[at..]);
-        at += n;
-        i += 1;
-    }
-    at
 }
 
 // Yes or no, and the line end.
@@ -145,131 +130,139 @@ fn put_classes(c: Classes, out: &mut [u8]) -> usize
     relserial_end + k
 }
 
-// The head, the list's numbers and the line end.
-fn put_list(head: &[u8], list: &[u8], out: &mut [u8]) -> usize
-    requires { length head.now + number_width * length list.now + 1 ≤ length out.old }
-    ensures { PutWithin (length head.now + number_width * length list.now + 1) (line (head.now ++ numbers list.now)) out.old out.new result }
+// The names with this value.
+fn names_of(value: u8) -> ArcNames
+    ensures { result ≡ names_of_value value }
 {
-    let n = put_bytes(head, &mut out[..]);
-    let m = put_numbers(list, &mut out[n..]);
-    let at = n + m;
-    let k = put_byte(b'\n', &mut out[at..]);
-    at + k
+    ArcNames {
+        i: value % 2 == 1,
+        d: value / 2 % 2 == 1,
+        f: value / 4 % 2 == 1,
+        b: value / 8 % 2 == 1,
+    }
 }
 
-// The first letter of I, D, F and B that holds, of the names with this value.
-fn first_letter(value: u8) -> u8
-    ensures { result ≡ first_letter (names_of_value value) }
+// The letter of the first of these names that holds.
+fn first_letter(names: ArcNames) -> u8
+    ensures { result ≡ first_letter names }
 {
-    if value % 2 == 1 {
-        return b'I';
+    if names.i {
+        b'I'
+    } else if names.d {
+        b'D'
+    } else if names.f {
+        b'F'
+    } else {
+        b'B'
     }
-    if value / 2 % 2 == 1 {
-        return b'D';
-    }
-    if value / 4 % 2 == 1 {
-        return b'F';
-    }
-    b'B'
 }
 
-// A blank and that letter.
-fn put_letter(value: u8, out: &mut [u8]) -> usize
-    requires { letter_width ≤ length out.old }
-    ensures { Put (blank ∷ first_letter (names_of_value value) ∷ []) out.old out.new result }
-{
-    let bytes = [b' ', first_letter(value)];
-    put_bytes(&bytes, out)
+// How a line writes each byte of a list, in `width` bytes at most.
+trait Entry {
+    ghost width: { ℕ };
+
+    ghost text: { ℕ → List ℕ };
+
+    fn put(x: u8, out: &mut [u8]) -> usize
+        requires { width ≤ length out.old }
+        ensures { PutWithin width (text x) out.old out.new result };
 }
 
-// A blank and a letter for each of the values.
-fn put_letters(values: &[u8], out: &mut [u8]) -> usize
-    requires { letter_width * length values.now ≤ length out.old }
-    ensures { PutWithin (letter_width * length values.now) (value_letters values.now) out.old out.new result }
+// A blank and the number.
+struct Number;
+
+impl Entry for Number {
+    ghost width = { number_width };
+
+    ghost text = { λ x. blank ∷ decimal x };
+
+    fn put(x: u8, out: &mut [u8]) -> usize {
+        put_number(b" ", book::wide(x), out)
+    }
+}
+
+// A blank and the first letter of the names with this value.
+struct Letter;
+
+impl Entry for Letter {
+    ghost width = { letter_width };
+
+    ghost text = { λ x. blank ∷ first_letter (names_of_value x) ∷ [] };
+
+    fn put(x: u8, out: &mut [u8]) -> usize {
+        put_bytes(&[b' ', first_letter(names_of(x))], out)
+    }
+}
+
+// The entries of the list.
+fn put_entries<E: Entry>(list: &[u8], out: &mut [u8]) -> usize
+    requires { E.width * length list.now ≤ length out.old }
+    ensures { PutWithin (E.width * length list.now) (each E.text list.now) out.old out.new result }
 {
-    let mut at: usize = 0;
-    let mut i: usize = 0;
-    while i < values.len() {
-        let n = put_letter(values[i], &mut out[at..]);
+    let mut at = 0;
+    for x in list {
+        let n = E::put(*x, &mut out[at..]);
         at += n;
-        i += 1;
     }
     at
 }
 
-// The line of the arcs.
-fn put_arcs(values: &[u8], out: &mut [u8]) -> usize
-    requires { 4 + letter_width * length values.now + 1 ≤ length out.old }
-    ensures { PutWithin (4 + letter_width * length values.now + 1) (arcs_line (tangled [] (map names_of_value values.now))) out.old out.new result }
+// The head, the entries of the list and the line end.
+fn put_list<E: Entry>(head: &[u8], list: &[u8], out: &mut [u8]) -> usize
+    requires { length head.now + E.width * length list.now + 1 ≤ length out.old }
+    ensures { PutWithin (length head.now + E.width * length list.now + 1) (line (head.now ++ each E.text list.now)) out.old out.new result }
 {
-    let n = put_bytes(b"arcs", &mut out[..]);
-    let m = put_letters(values, &mut out[n..]);
+    let n = put_bytes(head, &mut out[..]);
+    let m = put_entries::<E>(list, &mut out[n..]);
     let at = n + m;
     let k = put_byte(b'\n', &mut out[at..]);
     at + k
 }
 
 // The lines of a tangled history: the verdict, the cycle and its arcs.
-fn put_tangled(list: &[u8], values: &[u8], out: &mut [u8]) -> usize
-    requires { (length list.now ≤ step_limit) × (length values.now ≤ step_limit) × (verdict_width + evidence_width + arcs_width ≤ length out.old) }
-    ensures { PutWithin (verdict_width + evidence_width + arcs_width) (verdict_lines (verdict_by false list.now values.now)) out.old out.new result }
+fn put_tangled(places: &[u8], values: &[u8], out: &mut [u8]) -> usize
+    requires { (length places.now ≤ step_limit) × (length values.now ≤ step_limit) × (verdict_width + evidence_width + arcs_width ≤ length out.old) }
+    ensures { PutWithin (verdict_width + evidence_width + arcs_width) (verdict_lines (tangled places.now (map names_of_value values.now))) out.old out.new result }
 {
-    let n = put_list(b"verdict tangled\ncycle", list, &mut out[..]);
-    let m = put_arcs(values, &mut out[n..]);
+    let n = put_list::<Number>(b"verdict tangled\ncycle", places, &mut out[..]);
+    let m = put_list::<Letter>(b"arcs", values, &mut out[n..]);
     n + m
 }
 
 // The lines of the verdict, of its order or its cycle, and of the cycle's arcs.
-fn put_verdict(passed: bool, list: &[u8], values: &[u8], out: &mut [u8]) -> usize
-    requires { (length list.now ≤ step_limit) × (length values.now ≤ step_limit) × (verdict_width + evidence_width + arcs_width ≤ length out.old) }
-    ensures { PutWithin (verdict_width + evidence_width + arcs_width) (verdict_lines (verdict_by passed list.now values.now)) out.old out.new result }
+fn put_verdict(evidence: Evidence, out: &mut [u8]) -> usize
+    requires { Short evidence × (verdict_width + evidence_width + arcs_width ≤ length out.old) }
+    ensures { PutWithin (verdict_width + evidence_width + arcs_width) (verdict_lines (verdict_by evidence.entry)) out.old out.new result }
 {
-    if passed {
-        put_list(b"verdict passed\norder", list, out)
-    } else {
-        put_tangled(list, values, out)
+    match evidence {
+        Evidence::Order(runs) => put_list::<Number>(b"verdict passed\norder", runs, out),
+        Evidence::Cycle { places, values } => put_tangled(places, values, out),
     }
 }
 
 // The text for an accepted book.
-fn put_findings(
-    done: usize,
-    classes: Classes,
-    passed: bool,
-    list: &[u8],
-    values: &[u8],
-    out: &mut [u8],
-) -> usize
-    requires { (done < number_limit) × (length list.now ≤ step_limit) × (length values.now ≤ step_limit) × (text_limit ≤ length out.old) }
-    ensures { Put (text_of (accepted_with (findings done classes passed list.now values.now))) out.old out.new result }
+fn put_findings(done: usize, classes: Classes, evidence: Evidence, out: &mut [u8]) -> usize
+    requires { (done < number_limit) × Short evidence × (text_limit ≤ length out.old) }
+    ensures { Put (text_of (accepted_with (findings done classes (verdict_by evidence.entry)))) out.old out.new result }
 {
     let done_end = put_done(done, &mut out[..]);
     let n = put_classes(classes, &mut out[done_end..]);
     let classes_end = done_end + n;
-    let m = put_verdict(passed, list, values, &mut out[classes_end..]);
+    let m = put_verdict(evidence, &mut out[classes_end..]);
     classes_end + m
 }
 
 // The text for a refused book.
-fn put_refused(number: u8, place: usize, out: &mut [u8]) -> usize
+fn put_refused(refusal: Refusal, out: &mut [u8]) -> usize
     requires { refused_width ≤ length out.old }
-    ensures { Put (text_of (refused_at number place)) out.old out.new result }
+    ensures { Put (text_of (refused_at (number refusal.cause) refusal.place)) out.old out.new result }
 {
-    let number_end = put_number(b"refused ", book::wide(number), &mut out[..]);
-    let n = put_place(b" at ", place, &mut out[number_end..]);
+    let number = book::wide(book::number_of(refusal.cause));
+    let number_end = put_number(b"refused ", number, &mut out[..]);
+    let n = put_number(b" at ", refusal.place, &mut out[number_end..]);
     let place_end = number_end + n;
     let m = put_byte(b'\n', &mut out[place_end..]);
     place_end + m
-}
-
-fn is_passed(verdict: Verdict) -> bool
-    ensures { result ≡ is_passed verdict }
-{
-    match verdict {
-        Verdict::Refused(_, _) => false,
-        Verdict::Passed => true,
-        Verdict::Tangled => false,
-    }
 }
 
 // The four class tests of a valid book.
@@ -289,6 +282,26 @@ fn classes_of(b: Book) -> Classes
     }
 }
 
+// The evidence of a judgement: the front parts of the buffers that the judge filled.
+fn evidence_of<'a>(
+    judgement: Judgement,
+    order: &'a [u8; Book::STEPS],
+    cycle: &'a [u8; Book::STEPS],
+    values: &'a [u8; Book::STEPS],
+) -> Evidence<'a>
+    requires { judgement.count ≤ step_limit }
+    ensures { EvidenceIn judgement.verdict judgement.count order.now cycle.now values.now result }
+{
+    let list = judge::front(order, cycle, Ok(judgement));
+    match judgement.verdict {
+        Verdict::Passed => Evidence::Order(list),
+        Verdict::Tangled => Evidence::Cycle {
+            places: list,
+            values: &values[..judgement.count],
+        },
+    }
+}
+
 // The text for a valid book.
 fn put_accepted(b: Book, out: &mut [u8]) -> usize
     requires { Valid b × (text_limit ≤ length out.old) }
@@ -297,26 +310,18 @@ fn put_accepted(b: Book, out: &mut [u8]) -> usize
     let classes = classes_of(b);
     let mut order = [0u8; Book::STEPS];
     let mut cycle = [0u8; Book::STEPS];
-    let mut arc_values = [0u8; Book::STEPS];
-    let judgement = judge::judge_book(b, &mut order, &mut cycle, &mut arc_values);
-    let verdict = judgement.verdict;
-    let list = judge::front(&order, &cycle, verdict, judgement.count);
-    // Where passed these are the order's again, and not printed.
-    let values = judge::front(&order, &arc_values, verdict, judgement.count);
-    put_findings(b.done, classes, is_passed(verdict), list, values, out)
+    let mut values = [0u8; Book::STEPS];
+    let judgement = judge::judge_book(b, &mut order, &mut cycle, &mut values);
+    let evidence = evidence_of(judgement, &order, &cycle, &values);
+    put_findings(b.done, classes, evidence, out)
 }
 
 // Puts the text of the report on the bytes s into the buffer, and answers its length.
 pub fn report(s: &[u8], out: &mut [u8; TEXT]) -> usize
     ensures { Reports (read s.now) out.old out.new result }
 {
-    let reading = reader::read(s);
-    let answer = reading.answer;
-    match answer {
-        Answer::Refused(cause, place) => put_refused(book::number_of(cause), place, out),
-        Answer::Accepted => {
-            let b = reading.book;
-            put_accepted(b, out)
-        }
+    match reader::read(s) {
+        Ok(b) => put_accepted(b, out),
+        Err(refusal) => put_refused(refusal, out),
     }
 }

@@ -1,11 +1,9 @@
 -- Each turn of `greedy` takes theory's smallest ready place: what is ready by the tables is ready by the graph.
 use Prim.Native.Nat.{ℕ, ◌+◌, ◌≤◌, ◌<◌}
-use native.Mathlib.Nat.{le_antisymm}
 use native.Mathlib.Numerals.{add-one}
 use native.Mathlib.Decide.{dec_le}
 use native.Mathlib.Omega.{arith}
-use mathlib.Core.Path.{◌≡◌, refl, subst}
-use mathlib.Core.Logic.{inl, inr}
+use mathlib.Core.Path.{◌≡◌, refl}
 use mathlib.Core.Bool.{Bool}
 use mathlib.Core.List.{List, [], ◌∷◌, ◌++◌}
 use lib.ListN.{length, get_or, take, set, length-append, length-set, replicate}
@@ -15,14 +13,12 @@ use Rattle.theory.specs.Graph.{Arc, Taken, Ready, start, turn}
 use Rattle.theory.proofs.Decided.{arc_source}
 use Rattle.theory.proofs.Greedy.{taken_turn}
 use Rattle.bits.specs.Table.{row_bits, bit_at, Marked}
-use Rattle.bits.specs.declared.Found.{Found}
-use Rattle.bits.specs.declared.Found.TheVariants.{At, Nothing}
 use Rattle.book.specs.Format.{step_limit}
 use Rattle.dependence.specs.Marks.{Marks}
 use Rattle.dependence.specs.Inner.Tables.{HistoryOf}
 use Rattle.dependence.proofs.Counting.{clash, history_length}
-use Rattle.turns.specs.Inner.Turns.{InSet, ReadyIn, NoneReady, FirstReady, AllTaken, FirstUntaken, TakenAs, TurnsTaken}
-use Rattle.turns.proofs.ReadyPlaces.{not_in, none_taken, taken_added, all_none, all_added}
+use Rattle.turns.specs.Inner.Turns.{InSet, ReadyIn, NoneReady, LeastReady, AllTaken, FirstUntaken, TakenAs}
+use Rattle.turns.proofs.ReadyPlaces.{not_in, none_taken, taken_added, all_none}
 
 module _ (conflict : ℕ → ℕ → ℕ → ℕ → Bool) (unit : ℕ → ℕ → ℕ → ℕ) (h : List ℕ) (small : length h ≤ row_bits) (arc : List ℕ)
     (marks : Marks (Arc conflict unit h) arc) (l t : List ℕ) (g : TakenAs conflict unit h l t) where
@@ -79,16 +75,9 @@ module _ (history : List ℕ) (n : ℕ) (arc : List ℕ) (hs : HistoryOf history
   small : length (take n history) ≤ row_bits
   small = omega (arith, history_length hs, hs.within)
 
-  pub first_in : (t : List ℕ) (p : ℕ) (f : Found) → FirstReady arc t n f → f ≡ At p → p < step_limit
-  first_in t p f w e = let k : FirstReady arc t n (At p) = subst (FirstReady arc t n) e w in omega (arith, k.inside, hs.within)
-
-  pub below_more : (order t u : List ℕ) (from count p : ℕ) → TurnsSoFar history n arc order t from count → Marked t u 0 p → AllTaken u from
-  below_more order t u from count p w m = all_added t u p from (omega (arith, w.from_within, hs.within)) m w.below
-
-  pub turns_more : (order t u : List ℕ) (from to count p : ℕ) (f : Found) → TurnsSoFar history n arc order t from count → count < n
-      → FirstReady arc t n f → f ≡ At p → Marked t u 0 p → FirstUntaken u n to
-      → TurnsSoFar history n arc (set order count (get_or history p 0)) u to (count + 1)
-  turns_more order t u from to count p f w i ff e a fu = record {
+  pub turns_more : (order t u : List ℕ) (from to count p : ℕ) → TurnsSoFar history n arc order t from count → count < n → LeastReady arc t n p
+      → Marked t u 0 p → FirstUntaken u n to → TurnsSoFar history n arc (set order count (get_or history p 0)) u to (count + 1)
+  turns_more order t u from to count p w i k a fu = record {
     within = omega arith;
     from_within = fu.within;
     below = fu.before;
@@ -100,9 +89,6 @@ module _ (history : List ℕ) (n : ℕ) (arc : List ℕ) (hs : HistoryOf history
       ic : count < length order
       ic = omega (arith, hs.within, w.size)
 
-      k : FirstReady arc t n (At p)
-      k = subst (FirstReady arc t n) e ff
-
       next : (conflict : ℕ → ℕ → ℕ → ℕ → Bool) (unit : ℕ → ℕ → ℕ → ℕ) → Marks (Arc conflict unit (take n history)) arc
           → TakenAs conflict unit (take n history) (take (count + 1) (set order count (get_or history p 0))) u
       next conflict unit marks =
@@ -112,11 +98,3 @@ module _ (history : List ℕ) (n : ℕ) (arc : List ℕ) (hs : HistoryOf history
         where
           eq : take (count + 1) (set order count (get_or history p 0)) ≡ take count order ++ run (take n history) p ∷ []
           eq = rw (add-one count, get_or-take n history p 0 k.inside) (take-suc-set order count (get_or history p 0) ic)
-
-  pub turns_stuck : (order t : List ℕ) (from count : ℕ) (f : Found) → TurnsSoFar history n arc order t from count → FirstReady arc t n f → f ≡ Nothing
-      → TurnsTaken history n arc (record { count = count; order = order; taken = t })
-  turns_stuck order t from count f w ff e = record { within = w.within; long = w.long; taken_as = w.taken_as; ends = inr (subst (FirstReady arc t n) e ff) }
-
-  pub turns_all : (order t : List ℕ) (from count : ℕ) → TurnsSoFar history n arc order t from count → n ≤ count
-      → TurnsTaken history n arc (record { count = count; order = order; taken = t })
-  turns_all order t from count w l = record { within = w.within; long = w.long; taken_as = w.taken_as; ends = inl (le_antisymm w.within l) }

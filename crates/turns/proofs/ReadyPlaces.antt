@@ -1,49 +1,30 @@
--- Sets of places as rows of bits, and the search for the first ready place: a search that has found nothing so far.
-use Prim.Native.Nat.{ℕ, ◌+◌, ◌≤◌, ◌<◌}
+-- Sets of places as rows of bits, the first place that is not in one, and a place that is ready.
+use Prim.Native.Nat.{ℕ, ◌≤◌, ◌<◌}
 use native.Mathlib.Nat.{not-suc-le-zero}
-use native.Mathlib.Numerals.{add-one}
-use native.Mathlib.Decide.{ℕ_discrete}
+use Rattle.std.proofs.Common.{Option, Some, None, unwrap_or, MatchOption}
+use native.Mathlib.Decide.{ℕ_discrete, dec_lt}
 use native.Mathlib.Omega.{arith}
 use mathlib.Core.Path.{◌≡◌, sym, ◌∙◌}
 use mathlib.Core.Logic.{◌⊎◌, inl, inr, ◌↔◌, ◌≢◌}
-use mathlib.Core.Bool.{Bool, true, false, true≢false}
+use mathlib.Core.Bool.{Bool, true, false, true≢false, not}
 use mathlib.Core.List.{List, [], ◌∷◌, ◌++◌}
 use lib.ListN.{length, replicate}
-use borrow.Author.Tests.{eqb-true, eq-eqb}
+use borrow.Author.Tests.{eq-eqb, not-true}
 use lib.Dec.{eqb}
 use Rattle.theory.specs.History.{run}
 use Rattle.theory.specs.Graph.{Taken}
-use Rattle.theory.proofs.Finite.{below_suc}
 use Rattle.bits.specs.Table.{row_bits, bit_at, Subset, Marked}
-use Rattle.bits.specs.declared.Found.TheVariants.{At, Nothing}
 use Rattle.bits.proofs.Store.{bit_at_lt, zeros_bit}
 use Rattle.theory.specs.Answers.{Answers}
-use Rattle.theory.proofs.Answered.{answer_no, refute}
 use Rattle.dependence.proofs.Counting.{clash}
-use Rattle.turns.specs.Inner.Turns.{InSet, ReadyIn, NoneBelow, NoneReady, FirstReady, AllTaken, FirstUntaken, TakenIn}
-
--- ---- a search below a bound that has found nothing so far
-
-module _ (P : ℕ → Type 0) where
-  pub none_yet : NoneBelow P 0
-  none_yet = record { none = λ k i p. not-suc-le-zero i }
-
-  pub none_more : (n : ℕ) → NoneBelow P n → ¬ P n → NoneBelow P (n + 1)
-  none_more n t u = record { none = λ k i p. go k p (below_suc (rw (← add-one n) i)) }
-    where
-      go : (k : ℕ) → P k → (k ≡ n) ⊎ (k < n) → ⊥
-      go k p (inl e) = u (rw e at p)
-      go k p (inr i) = t.none k i p
+use Rattle.turns.specs.Inner.Turns.{InSet, ReadyIn, FirstReady, AllTaken, FirstUntaken, TakenIn}
 
 -- ---- sets of places
 
 pub not_in : (t : List ℕ) (p : ℕ) → ¬ InSet t p → bit_at t 0 p ≡ 0
 not_in t p n = omega (arith, n, bit_at_lt t 0 p)
 
--- what `bits::has` answers
-pub has_in : (t : List ℕ) (p : ℕ) (b : Bool) → b ≡ eqb (bit_at t 0 p) 1 → b ≡ true → InSet t p
-has_in t p b e h = eqb-true _ _ (sym e ∙ h)
-
+-- what `bits::has` answers where the place is not in the set
 pub has_not : (t : List ℕ) (p : ℕ) (b : Bool) → b ≡ eqb (bit_at t 0 p) 1 → b ≡ false → bit_at t 0 p ≡ 0
 has_not t p b e h = not_in t p (λ i. true≢false (sym (eq-eqb _ _ i) ∙ sym e ∙ h))
 
@@ -82,44 +63,35 @@ taken_added {h} {l} {t} {u} {p} small w m turn = record {
 pub all_none : (t : List ℕ) → AllTaken t 0
 all_none t = record { all = λ k l. absurd (not-suc-le-zero l) }
 
-pub all_more : (t : List ℕ) (p : ℕ) (b : Bool) → AllTaken t p → b ≡ eqb (bit_at t 0 p) 1 → b ≡ true → AllTaken t (p + 1)
-all_more t p b a e h = record { all = λ k l. go k l (ℕ_discrete k p) }
+-- what holds below `from` and from there on holds below n
+pub below_both : {P : ℕ → Type 0} (from n : ℕ) → ((k : ℕ) → k < from → P k) → ((k : ℕ) → from ≤ k → k < n → P k) → (k : ℕ) → k < n → P k
+below_both {P} from n low high k i = go (dec_lt k from)
   where
-    go : (k : ℕ) → k < p + 1 → Dec (k ≡ p) → InSet t k
-    go k l (yes q) = rw q (has_in t p b e h)
-    go k l (no n) = a.all k (omega arith)
+    go : Dec (k < from) → P k
+    go (yes l) = low k l
+    go (no l) = high k (omega arith) i
 
-pub all_added : (t u : List ℕ) (p n : ℕ) → n ≤ row_bits → Marked t u 0 p → AllTaken t n → AllTaken u n
-all_added t u p n s m a = record { all = λ k l. added_in m k (omega arith) (a.all k l) }
+-- what a search from `from` on finds is the first of all, where those below are taken
+pub first_untaken : (t : List ℕ) (from n : ℕ) → from ≤ n → AllTaken t from → (r : Option ℕ)
+    → MatchOption r ((k : ℕ) → from ≤ k → k < n → InSet t k)
+    (λ p. (from ≤ p) × (p < n) × ¬ InSet t p × ((k : ℕ) → from ≤ k → k < p → InSet t k)) → FirstUntaken t n (unwrap_or r n)
+first_untaken t from n i a (Some p) f = record { within = omega (arith, f.1); before = record { all = below_both from p a.all f.3 }; here = λ l. not_in t p f.2 }
+first_untaken t from n i a None f = record { within = omega arith; before = record { all = below_both from n a.all f }; here = λ l. absurd (omega (arith, l)) }
 
-pub untaken_at : (t : List ℕ) (n p : ℕ) (b : Bool) → p < n → AllTaken t p → b ≡ eqb (bit_at t 0 p) 1 → b ≡ false → FirstUntaken t n p
-untaken_at t n p b l a e h = record { within = omega arith; before = a; here = λ k. has_not t p b e h }
+-- ---- a ready place
 
-pub untaken_none : (t : List ℕ) (n p : ℕ) → p ≤ n → AllTaken t p → n ≤ p → FirstUntaken t n p
-untaken_none t n p w a l = record { within = w; before = a; here = λ k. absurd (never k) }
-  where
-    never : p < n → ⊥
-    never k = omega arith
+pub first_ready : (arc t : List ℕ) (from n : ℕ) → AllTaken t from → (r : Option ℕ)
+    → MatchOption r ((k : ℕ) → from ≤ k → k < n → ¬ ReadyIn arc t k)
+    (λ p. (from ≤ p) × (p < n) × ReadyIn arc t p × ((k : ℕ) → from ≤ k → k < p → ¬ ReadyIn arc t k)) → FirstReady arc t n r
+first_ready arc t from n a (Some p) f = record {
+  inside = f.1;
+  ready = f.2;
+  least = record { none = below_both from p (λ k l q. clash q.untaken (a.all k l)) f.3 };
+}
+first_ready arc t from n a None f = record { none = below_both from n (λ k l q. clash q.untaken (a.all k l)) f }
 
--- ---- the first ready place
-
-pub taken_answers : (arc t : List ℕ) (p : ℕ) (b : Bool) → b ≡ eqb (bit_at t 0 p) 1 → b ≡ true → Answers (ReadyIn arc t p) false
-taken_answers arc t p b e h = answer_no (λ r. clash r.untaken (has_in t p b e h))
-
-pub within_answers : (arc t : List ℕ) (p : ℕ) (b r : Bool) → b ≡ eqb (bit_at t 0 p) 1 → b ≡ false → Subset (bit_at arc p) (bit_at t 0) r → Answers (ReadyIn arc t p) r
+pub within_answers : (arc t : List ℕ) (p : ℕ) (b r : Bool) → b ≡ eqb (bit_at t 0 p) 1 → not b ≡ true → Subset (bit_at arc p) (bit_at t 0) r → Answers (ReadyIn arc t p) r
 within_answers arc t p b r e h w = record {
-  sound = λ q. record { untaken = has_not t p b e h; sources = w.sound q };
+  sound = λ q. record { untaken = has_not t p b e (not-true b h); sources = w.sound q };
   complete = λ k. w.complete k.sources;
 }
-
-pub taken_none : (arc t : List ℕ) (n : ℕ) → AllTaken t n → NoneReady arc t n
-taken_none arc t n a = record { none = λ k l r. clash r.untaken (a.all k l) }
-
-pub ready_more : (arc t : List ℕ) (p : ℕ) (b : Bool) → NoneReady arc t p → Answers (ReadyIn arc t p) b → b ≡ false → NoneReady arc t (p + 1)
-ready_more arc t p b w s f = none_more (ReadyIn arc t) p w (refute s f)
-
-pub first_at : (arc t : List ℕ) (n p : ℕ) (b : Bool) → NoneReady arc t p → p < n → Answers (ReadyIn arc t p) b → b ≡ true → FirstReady arc t n (At p)
-first_at arc t n p b w i s h = record { inside = i; ready = s.sound h; least = w }
-
-pub first_none : (arc t : List ℕ) (n p : ℕ) → NoneReady arc t p → n ≤ p → FirstReady arc t n Nothing
-first_none arc t n p w l = record { none = λ k i. w.none k (omega arith) }

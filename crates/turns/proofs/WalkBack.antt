@@ -1,25 +1,23 @@
 -- Back from source to source: the walk's places are distinct, so one comes again, and what lies between is a cycle.
+use Rattle.std.specs.Prelude.{Option, Some, None}
+use Rattle.std.proofs.lemmas.Option.{none-some, same_Some}
+use Rattle.std.proofs.lemmas.List.{get_or-replicate}
 use Prim.Native.Nat.{ℕ, zero, suc, ◌+◌, ◌-◌, ◌≤◌, ◌<◌, zero-le, suc-le-suc}
 use native.Mathlib.Nat.{lt_irrefl, not-suc-le-zero}
 use native.Mathlib.Decide.{ℕ_discrete, dec_lt}
 use native.Mathlib.Omega.{arith}
-use mathlib.Core.Path.{◌≡◌, sym, ap, ◌∙◌, subst}
+use mathlib.Core.Path.{◌≡◌, sym, ap, ◌∙◌}
 use mathlib.Core.Logic.{◌⊎◌, inl, inr, ◌≢◌}
 use mathlib.Core.List.{List, [], ◌∷◌}
-use mir.Val.{Fits}
-use mir.Syntax.{w8}
 use lib.ListN.{length, get_or, take, drop, set, length-set, length-drop, replicate, length-replicate}
 use lib.Seq.{get_or-set_same, get_or-set_other, get_or-take, get_or-drop, length-take-le}
 use Rattle.theory.proofs.Finite.{below_suc}
 use Rattle.theory.proofs.Cycles.{NotIn, Distinct, AllBelow, pigeonhole}
 use Rattle.bits.specs.Table.{row_bits, bit_at, difference}
-use Rattle.bits.specs.First.{FirstAt, NoColumn, First}
-use Rattle.bits.specs.declared.Found.{Found}
-use Rattle.bits.specs.declared.Found.TheVariants.{At, Nothing}
+use Rattle.bits.specs.First.{FirstAt, NoColumn}
 use Rattle.bits.proofs.Store.{bit_at_lt}
 use Rattle.buffer.specs.Put.{Put}
 use Rattle.book.specs.Format.{step_limit}
-use Rattle.theory.proofs.Lists.{get_or_zeros}
 use Rattle.turns.specs.Inner.Turns.{InSet, FirstUntaken}
 use Rattle.turns.specs.Inner.Cycles.{ArcIn, Stuck, CycleIn}
 
@@ -56,40 +54,40 @@ open_first arc taken n p st f = go (dec_lt p n)
 abbrev place : List ℕ → ℕ → ℕ
 place trail k = get_or trail (step_limit - (k + 1)) 0
 
--- the walk so far: distinct places, each a source of the one before it, and the number of each, from 1
-pub record Trail (arc : List ℕ) (n : ℕ) (trail seen : List ℕ) (len : ℕ) : Type 0 where
+-- the walk so far: distinct places, each a source of the one before it, and the number of each
+pub record Trail (arc : List ℕ) (n : ℕ) (trail : List ℕ) (seen : List (Option ℕ)) (len : ℕ) : Type 0 where
   pub trail_size : length trail ≡ step_limit
   pub seen_size : length seen ≡ step_limit
   pub within : len ≤ step_limit
   pub places : (k : ℕ) → k < len → place trail k < n
   pub sources : (k : ℕ) → suc k < len → bit_at arc (place trail k) (place trail (suc k)) ≡ 1
-  pub unseen : (x k : ℕ) → x < n → get_or seen x 0 ≡ 0 → k < len → place trail k ≢ x
-  pub seen_at : (x s : ℕ) → x < n → get_or seen x 0 ≡ suc s → (s < len) × (place trail s ≡ x)
+  pub unseen : (x k : ℕ) → x < n → get_or seen x None ≡ None → k < len → place trail k ≢ x
+  pub seen_at : (x s : ℕ) → x < n → get_or seen x None ≡ Some s → (s < len) × (place trail s ≡ x)
   pub distinct : (j k : ℕ) → j < k → k < len → place trail j ≢ place trail k
 
 -- and the next place, v, a source of the last
-pub record Walked (arc taken : List ℕ) (n : ℕ) (trail seen : List ℕ) (v len : ℕ) : Type 0 where
+pub record Walked (arc taken : List ℕ) (n : ℕ) (trail : List ℕ) (seen : List (Option ℕ)) (v len : ℕ) : Type 0 where
   pub so_far : Trail arc n trail seen len
   pub inside : v < n
   pub untaken : bit_at taken 0 v ≡ 0
-  pub fresh : get_or seen v 0 ≡ 0
+  pub fresh : get_or seen v None ≡ None
   pub last : (k : ℕ) → suc k ≡ len → bit_at arc (place trail k) v ≡ 1
 
-pub walked_none : (arc taken : List ℕ) (n v : ℕ) → Stuck arc taken n → FirstUntaken taken n v → Walked arc taken n (replicate step_limit 0) (replicate step_limit 0) v 0
+pub walked_none : (arc taken : List ℕ) (n v : ℕ) → Stuck arc taken n → FirstUntaken taken n v → Walked arc taken n (replicate step_limit 0) (replicate step_limit None) v 0
 walked_none arc taken n v st f = record {
   so_far = record {
     trail_size = length-replicate {A = ℕ} step_limit 0;
-    seen_size = length-replicate {A = ℕ} step_limit 0;
+    seen_size = length-replicate {A = Option ℕ} step_limit None;
     within = omega arith;
     places = λ k l. absurd (not-suc-le-zero l);
     sources = λ k l. absurd (not-suc-le-zero l);
     unseen = λ x k i z l. absurd (not-suc-le-zero l);
-    seen_at = λ x s i e. absurd (never x s e);
+    seen_at = λ x s i e. absurd (none-some s (sym (empty x i) ∙ e));
     distinct = λ j k l b. absurd (not-suc-le-zero b);
   };
   inside = o.inside;
   untaken = o.untaken;
-  fresh = get_or_zeros step_limit v;
+  fresh = empty v o.inside;
   last = λ k e. absurd (ne k e);
 }
   where
@@ -99,10 +97,10 @@ walked_none arc taken n v st f = record {
     ne : (k : ℕ) → suc k ≡ 0 → ⊥
     ne k e = omega arith
 
-    never : (x s : ℕ) → get_or (replicate step_limit 0) x 0 ≡ suc s → ⊥
-    never x s e = omega (arith, get_or_zeros step_limit x)
+    empty : (x : ℕ) → x < n → ◌≡◌ {A = Option ℕ} (get_or (replicate step_limit None) x None) None
+    empty x i = get_or-replicate step_limit x None None (omega (arith, st.within))
 
-module _ (arc taken : List ℕ) (n : ℕ) (st : Stuck arc taken n) (trail seen : List ℕ) (v len : ℕ) (w : Walked arc taken n trail seen v len) where
+module _ (arc taken : List ℕ) (n : ℕ) (st : Stuck arc taken n) (trail : List ℕ) (seen : List (Option ℕ)) (v len : ℕ) (w : Walked arc taken n trail seen v len) where
   t : Trail arc n trail seen len
   t = w.so_far
 
@@ -140,8 +138,8 @@ module _ (arc taken : List ℕ) (n : ℕ) (st : Stuck arc taken n) (trail seen :
   trail' : List ℕ
   trail' = set trail (step_limit - (len + 1)) v
 
-  seen' : List ℕ
-  seen' = set seen v (len + 1)
+  seen' : List (Option ℕ)
+  seen' = set seen v (Some len)
 
   v_last : place trail' len ≡ v
   unfolding trail'
@@ -151,7 +149,7 @@ module _ (arc taken : List ℕ) (n : ℕ) (st : Stuck arc taken n) (trail seen :
   unfolding trail' seen'
   pushed = record {
     trail_size = length-set trail (step_limit - (len + 1)) v ∙ t.trail_size;
-    seen_size = length-set seen v (len + 1) ∙ t.seen_size;
+    seen_size = length-set seen v (Some len) ∙ t.seen_size;
     within = room_limit;
     places = λ k l. places_at k (split k l);
     sources = λ k l. sources_at k (split (suc k) l);
@@ -177,21 +175,17 @@ module _ (arc taken : List ℕ) (n : ℕ) (st : Stuck arc taken n) (trail seen :
       v_size : v < length seen
       v_size = omega (arith, vn, st.within, t.seen_size)
 
-      unseen_at : (x k : ℕ) → x < n → get_or seen' x 0 ≡ 0 → Dec (x ≡ v) → (k ≡ len) ⊎ (k < len) → place trail' k ≢ x
-      unseen_at x k i z (yes e) d = absurd (nz (sym (get_or-set_same seen v (len + 1) 0 v_size) ∙ (rw e at z)))
-        where
-          nz : len + 1 ≡ 0 → ⊥
-          nz q = omega arith
+      unseen_at : (x k : ℕ) → x < n → get_or seen' x None ≡ None → Dec (x ≡ v) → (k ≡ len) ⊎ (k < len) → place trail' k ≢ x
+      unseen_at x k i z (yes e) d = absurd (none-some len (sym (rw e at z) ∙ get_or-set_same seen v (Some len) None v_size))
       unseen_at x k i z (no d) (inl e) = λ q. d (sym q ∙ ap (place trail') e ∙ v_last)
-      unseen_at x k i z (no d) (inr l) = λ q. t.unseen x k i (sym (get_or-set_other seen v x (len + 1) 0 d) ∙ z) l (sym (old k l) ∙ q)
+      unseen_at x k i z (no d) (inr l) = λ q. t.unseen x k i (sym (get_or-set_other seen v x (Some len) None d) ∙ z) l (sym (old k l) ∙ q)
 
-      seen_at' : (x s : ℕ) → x < n → get_or seen' x 0 ≡ suc s → Dec (x ≡ v) → (s < len + 1) × (place trail' s ≡ x)
+      seen_at' : (x s : ℕ) → x < n → get_or seen' x None ≡ Some s → Dec (x ≡ v) → (s < len + 1) × (place trail' s ≡ x)
       seen_at' x s i e (yes d) =
-          let q : len + 1 ≡ suc s = sym (get_or-set_same seen v (len + 1) 0 v_size) ∙ (rw d at e) in
-          let ls : s ≡ len = omega arith in
+          let ls : s ≡ len = sym (same_Some len s (sym (get_or-set_same seen v (Some len) None v_size) ∙ (rw d at e))) in
           (omega arith, ap (place trail') ls ∙ v_last ∙ sym d)
       seen_at' x s i e (no d) =
-          let u = t.seen_at x s i (sym (get_or-set_other seen v x (len + 1) 0 d) ∙ e) in
+          let u = t.seen_at x s i (sym (get_or-set_other seen v x (Some len) None d) ∙ e) in
           (omega (arith, u.0), old s u.0 ∙ u.1)
 
       distinct_at : (j k : ℕ) → j < k → (k ≡ len) ⊎ (k < len) → place trail' j ≢ place trail' k
@@ -203,31 +197,16 @@ module _ (arc taken : List ℕ) (n : ℕ) (st : Stuck arc taken n) (trail seen :
           t.distinct j k l b (sym (old j jl) ∙ q ∙ old k b)
 
   -- v is not ready, so it has a source that is not taken
-  pub never_none : (cycle cycle' : List ℕ) (r : ℕ) (f : Found) → First (difference (bit_at arc v) (bit_at taken 0)) f → f ≡ Nothing → CycleIn arc n cycle cycle' r
-  never_none cycle cycle' r f so ef = absurd (st.none.none v vn (record { untaken = w.untaken; sources = source }))
+  pub never_none : (cycle cycle' : List ℕ) (r : ℕ) → NoColumn (difference (bit_at arc v) (bit_at taken 0)) → CycleIn arc n cycle cycle' r
+  never_none cycle cycle' r none = absurd (st.none.none v vn (record { untaken = w.untaken; sources = source }))
     where
-      none : NoColumn (difference (bit_at arc v) (bit_at taken 0))
-      none = subst (First (difference (bit_at arc v) (bit_at taken 0))) ef so
-
       source : (x : ℕ) → x < row_bits → bit_at arc v x ≡ 1 → InSet taken x
       source x h e = omega (arith, none.none x h, bit_at_lt taken 0 x)
 
   pub never_long : (cycle cycle' : List ℕ) (r : ℕ) → step_limit ≤ len → CycleIn arc n cycle cycle' r
   never_long cycle cycle' r l = absurd (lt_irrefl len (omega (arith, room_limit)))
 
-  pub v_limit : v < step_limit
-  v_limit = omega (arith, vn, st.within)
-
-  pub v_byte : Fits w8 v
-  v_byte = record { fits = omega (arith, v_limit) }
-
-  pub number_byte : Fits w8 (len + 1)
-  number_byte = record { fits = omega (arith, room_limit) }
-
-  module _ (x : ℕ) (f : Found) (so : First (difference (bit_at arc v) (bit_at taken 0)) f) (ef : f ≡ At x) where
-    src : FirstAt (difference (bit_at arc v) (bit_at taken 0)) x
-    src = subst (First (difference (bit_at arc v) (bit_at taken 0))) ef so
-
+  module _ (x : ℕ) (src : FirstAt (difference (bit_at arc v) (bit_at taken 0)) x) where
     x_marked : bit_at arc v x ≡ 1
     x_marked = omega (arith, src.here, bit_at_lt arc v x)
 
@@ -237,43 +216,36 @@ module _ (arc taken : List ℕ) (n : ℕ) (st : Stuck arc taken n) (trail seen :
     x_in : x < n
     x_in = st.sources x v src.in_row vn x_marked
 
-    pub x_limit : x < step_limit
-    x_limit = omega (arith, x_in, st.within)
-
-    pub walked_more : (s : ℕ) → s ≡ get_or (set seen v (len + 1)) x 0 → s ≡ 0 → Walked arc taken n (set trail (step_limit - (len + 1)) v) (set seen v (len + 1)) x (len + 1)
+    pub walked_more : get_or (set seen v (Some len)) x None ≡ None → Walked arc taken n (set trail (step_limit - (len + 1)) v) (set seen v (Some len)) x (len + 1)
     unfolding trail' seen'
-    walked_more s es z = record {
+    walked_more z = record {
       so_far = pushed;
       inside = x_in;
       untaken = x_untaken;
-      fresh = sym es ∙ z;
+      fresh = z;
       last = λ k e. let q : k ≡ len = omega arith in rw (q, v_last) x_marked;
     }
 
-    module _ (s : ℕ) (es : s ≡ get_or (set seen v (len + 1)) x 0) (nz : s ≡ 0 → ⊥) where
-      at_s : (s - 1 < len + 1) × (place trail' (s - 1) ≡ x)
+    module _ (s : ℕ) (es : get_or (set seen v (Some len)) x None ≡ Some s) where
+      at_s : (s < len + 1) × (place trail' s ≡ x)
       unfolding seen'
-      at_s = let e : s ≡ suc (s - 1) = omega arith in pushed.seen_at x (s - 1) x_in (sym es ∙ e)
+      at_s = pushed.seen_at x s x_in es
 
-      pub s_limit : s ≤ step_limit + 1
+      pub s_limit : s ≤ step_limit
       s_limit = omega (arith, at_s.0, room_limit)
 
-      pub part_start : step_limit - (len + 1) ≤ step_limit + 1 - s
+      pub part_start : step_limit - (len + 1) ≤ step_limit - s
       part_start = omega (arith, at_s.0, room_limit)
 
-      pub part_end : step_limit + 1 - s ≤ length (set trail (step_limit - (len + 1)) v)
-      unfolding trail'
-      part_end = omega (arith, pushed.trail_size, nz)
-
-      pub closed : (cycle now cycle' : List ℕ) (count : ℕ) → now ≡ cycle
-          → Put (take (step_limit + 1 - s - (step_limit - (len + 1))) (drop (step_limit - (len + 1)) (set trail (step_limit - (len + 1)) v))) now cycle' count
+      pub closed : (m : ℕ) → m ≡ s → (cycle now cycle' : List ℕ) (count : ℕ) → now ≡ cycle
+          → Put (take (step_limit - m - (step_limit - (len + 1))) (drop (step_limit - (len + 1)) (set trail (step_limit - (len + 1)) v))) now cycle' count
           → CycleIn arc n cycle cycle' count
       unfolding trail'
-      closed cycle now cycle' count eo p = rw (put.count ∙ c_length) (record {
+      closed m em cycle now cycle' count eo p = rw (put.count ∙ c_length) (record {
         places = c_places;
         least = omega (arith, at_s.0);
-        most = omega (arith, room, nz);
-        distinct = λ i j l b. rw (c_at i (omega arith), c_at j b) (λ q. pushed.distinct (len - j) (len - i) (omega (arith, at_s.0, nz)) (omega arith) (sym q));
+        most = omega (arith, room);
+        distinct = λ i j l b. rw (c_at i (omega arith), c_at j b) (λ q. pushed.distinct (len - j) (len - i) (omega (arith, at_s.0)) (omega arith) (sym q));
         next = c_next;
         back = c_back;
         written = record { bytes = rw (← eo) put.bytes; count = sym c_length };
@@ -283,24 +255,24 @@ module _ (arc taken : List ℕ) (n : ℕ) (st : Stuck arc taken n) (trail seen :
           a = step_limit - (len + 1)
 
           r : ℕ
-          r = len + 1 + 1 - s
+          r = len + 1 - s
 
           c_places : List ℕ
           c_places = take r (drop a trail')
 
           put : Put c_places now cycle' count
-          put = let e : step_limit + 1 - s - a ≡ r = omega (arith, room_limit) in rw (← e) p
+          put = let e : step_limit - m - a ≡ r = omega (arith, room_limit, em) in rw (← e) p
 
           c_length : length c_places ≡ r
-          c_length = length-take-le r (drop a trail') (omega (arith, length-drop a trail', pushed.trail_size, room_limit, nz))
+          c_length = length-take-le r (drop a trail') (omega (arith, length-drop a trail', pushed.trail_size, room_limit))
 
           c_at : (i : ℕ) → i < r → get_or c_places i 0 ≡ place trail' (len - i)
-          c_at i l = get_or-take r (drop a trail') i 0 l ∙ get_or-drop a trail' i 0 ∙ ap (λ (y : ℕ). get_or trail' y 0) (omega (arith, room_limit, nz))
+          c_at i l = get_or-take r (drop a trail') i 0 l ∙ get_or-drop a trail' i 0 ∙ ap (λ (y : ℕ). get_or trail' y 0) (omega (arith, room_limit))
 
           c_next : (i : ℕ) → suc i < r → ArcIn arc n (get_or c_places i 0) (get_or c_places (suc i) 0)
           c_next i l =
-              let k : len - i ≡ suc (len - suc i) = omega (arith, nz) in
-              let m : bit_at arc (place trail' (len - suc i)) (place trail' (suc (len - suc i))) ≡ 1 = pushed.sources (len - suc i) (omega (arith, nz)) in
+              let k : len - i ≡ suc (len - suc i) = omega arith in
+              let m : bit_at arc (place trail' (len - suc i)) (place trail' (suc (len - suc i))) ≡ 1 = pushed.sources (len - suc i) (omega arith) in
               rw (c_at i (omega arith), c_at (suc i) l) (record {
                 from = pushed.places (len - i) (omega arith);
                 to = pushed.places (len - suc i) (omega arith);
@@ -309,6 +281,6 @@ module _ (arc taken : List ℕ) (n : ℕ) (st : Stuck arc taken n) (trail seen :
 
           c_back : ArcIn arc n (get_or c_places (r - 1) 0) (get_or c_places 0 0)
           c_back =
-              let k : len - (r - 1) ≡ s - 1 = omega (arith, at_s.0, nz) in
+              let k : len - (r - 1) ≡ s = omega (arith, at_s.0) in
               let z : len - 0 ≡ len = omega arith in
               rw (c_at (r - 1) (omega (arith, at_s.0)), c_at 0 (omega (arith, at_s.0)), k, z, at_s.1, v_last) (record { from = x_in; to = vn; marked = x_marked })

@@ -9,7 +9,7 @@ ghost use Rattle.dependence.specs.Inner.Tables.{HistoryOf};
 ghost use Rattle.turns.specs.Inner.Turns.{ReadyIn, AllTaken, FirstUntaken, FirstReady, TurnsTaken};
 ghost use Rattle.turns.specs.Inner.Cycles.{Stuck, CycleIn};
 
-use bits::{Found, Row, Table};
+use bits::{Row, Table};
 use book::Book;
 
 // The turns so far: how many, the run numbers of the places taken, in that order, and the set of these places.
@@ -25,10 +25,7 @@ fn is_ready(arc: &Table, taken: &Row, p: usize) -> bool
     requires { p < row_bits }
     ensures { Answers (ReadyIn arc.now taken.now p) result }
 {
-    if bits::has(taken, p) {
-        return false;
-    }
-    bits::within(arc, p, taken)
+    !bits::has(taken, p) && bits::within(arc, p, taken)
 }
 
 // The smallest place that is not taken, or n; those below `from` are taken.
@@ -36,30 +33,15 @@ fn untaken(taken: &Row, from: usize, n: usize) -> usize
     requires { (n ≤ row_bits) × (from ≤ n) × AllTaken taken.now from }
     ensures { FirstUntaken taken.now n result }
 {
-    let mut p = from;
-    while p < n {
-        if bits::has(taken, p) {
-            p += 1;
-        } else {
-            return p;
-        }
-    }
-    p
+    (from..n).find(|&p| !bits::has(taken, p)).unwrap_or(n)
 }
 
 // The smallest ready place; those below `from` are taken.
-fn ready(arc: &Table, taken: &Row, from: usize, n: usize) -> Found
+fn ready(arc: &Table, taken: &Row, from: usize, n: usize) -> Option<usize>
     requires { (n ≤ row_bits) × (from ≤ n) × AllTaken taken.now from }
     ensures { FirstReady arc.now taken.now n result }
 {
-    let mut p = from;
-    while p < n {
-        if is_ready(arc, taken, p) {
-            return Found::At(p);
-        }
-        p += 1;
-    }
-    Found::Nothing
+    (from..n).find(|&p| is_ready(arc, taken, p))
 }
 
 // Turn by turn the smallest ready place, as far as it goes.
@@ -70,26 +52,20 @@ pub fn greedy(history: &[u8; Book::STEPS], n: usize, arc: &Table) -> Turns
     let mut order = [0u8; Book::STEPS];
     let mut taken = [0u64; bits::ROW_WORDS];
     let mut from = 0;
-    let mut count = 0;
-    while count < n {
-        match ready(arc, &taken, from, n) {
-            Found::At(p) => {
-                order[count] = history[p];
-                bits::add(&mut taken, p);
-                from = untaken(&taken, from, n);
-                count += 1;
-            }
-            Found::Nothing => {
-                return Turns {
-                    count,
-                    order,
-                    taken,
-                };
-            }
-        }
+    for count in 0..n {
+        let Some(p) = ready(arc, &taken, from, n) else {
+            return Turns {
+                count,
+                order,
+                taken,
+            };
+        };
+        order[count] = history[p];
+        bits::add(&mut taken, p);
+        from = untaken(&taken, from, n);
     }
     Turns {
-        count,
+        count: n,
         order,
         taken,
     }
@@ -100,31 +76,23 @@ pub fn find_cycle(arc: &Table, n: usize, taken: &Row, cycle: &mut [u8]) -> usize
     requires { Stuck arc.now taken.now n × (step_limit ≤ length cycle.old) }
     ensures { CycleIn arc.now n cycle.old cycle.new result }
 {
-    // The walk stands at the end of `trail`, its last place first; `seen` has the number of each place on it, from 1.
+    // The walk's places, its last one first, at the end of `trail`; `seen` has the number of each place on it.
     let mut trail = [0u8; Book::STEPS];
-    let mut seen = [0u8; Book::STEPS];
+    let mut seen: [Option<u8>; Book::STEPS] = [None; Book::STEPS];
     let mut v = untaken(taken, 0, n);
-    let mut len = 0;
-    while len < Book::STEPS {
-        len += 1;
-        trail[Book::STEPS - len] = v as u8;
-        seen[v] = len as u8;
-        match bits::first_outside(arc, v, taken) {
-            Found::At(x) => {
-                let s = book::wide(seen[x]);
-                if s != 0 {
-                    let walk = &trail[..];
-                    let at = Book::STEPS - len;
-                    let end = Book::STEPS + 1 - s;
-                    return buffer::put_bytes(&walk[at..end], cycle);
-                }
-                v = x;
-            }
+    for len in 0..Book::STEPS {
+        let at = Book::STEPS - (len + 1);
+        trail[at] = v as u8;
+        seen[v] = Some(len as u8);
+        let Some(x) = bits::first_outside(arc, v, taken) else {
             // Never: v is not ready.
-            Found::Nothing => {
-                return 0;
-            }
+            return 0;
+        };
+        if let Some(s) = seen[x] {
+            let end = Book::STEPS - book::wide(s);
+            return buffer::put_bytes(&trail[at..end], cycle);
         }
+        v = x;
     }
     // Never: the walk has at most n places.
     0

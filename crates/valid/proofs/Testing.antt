@@ -2,7 +2,7 @@
 use Prim.Native.Nat.{ℕ, zero, suc, ◌-◌, ◌≤◌, ◌<◌, zero-le}
 use mathlib.Core.Path.{◌≡◌, refl, sym, ◌∙◌}
 use mathlib.Core.List.{List}
-use mathlib.Core.Bool.{Bool, false, ◌&&◌}
+use mathlib.Core.Bool.{Bool, ◌&&◌}
 use native.Mathlib.Omega.{arith}
 use native.Mathlib.Decide.{dec_le}
 use borrow.Author.Tests.{ltb-true, leb-true, eqb-true, lt-ltb, le-leb, eq-eqb}
@@ -12,12 +12,12 @@ use Rattle.theory.specs.Lists.{sum}
 use Rattle.theory.specs.History.{count}
 use Rattle.theory.specs.Answers.{Answers}
 use Rattle.theory.proofs.Lists.{sum_front, count_take_ne}
-use Rattle.theory.proofs.Answered.{answer_no, answer_both, answer_same}
+use Rattle.theory.proofs.Answered.{answer_both, answer_same}
 use Rattle.book.specs.Format.{run_limit, run_step_limit, step_limit}
 use Rattle.book.specs.Book.{pairs_size, cuts_size, code_limit, Flags, Column, RunsValid, Valid}
 use Rattle.book.specs.declared.Book.{Book}
 use Rattle.book.proofs.Books.{done_within}
-use Rattle.valid.specs.Inner.Tables.{Largest, Counted, CountsValid, HistoryWithin}
+use Rattle.valid.specs.Inner.Tables.{Largest, CountsValid, HistoryWithin}
 
 -- ---- tests of numbers
 
@@ -35,22 +35,11 @@ eq_answers a b = record { sound = eqb-true a b; complete = eq-eqb a b }
 pub flags_answer : (l : List ℕ) (m : ℕ) → Largest l 0 m → Answers (Flags (length l) l) (leb m 1)
 flags_answer l m g = answer_same (λ h. record { long = refl; small = λ i. omega (arith, g.above i zero-le) }) (λ f. g.least 1 (λ i h. f.small i)) (le_answers m 1)
 
--- of a table of n
-pub sized_flags : (l : List ℕ) (n : ℕ) (a : Bool) → Answers (Flags (length l) l) a → length l ≡ n → Answers (Flags n l) a
-sized_flags l n a p e = rw e at p
-
 pub column_answer : (l : List ℕ) (limit end a b : ℕ) → Largest l 0 a → Largest l end b → Answers (Column (length l) limit end l) (ltb a limit && eqb b 0)
 column_answer l limit end a b g k = answer_same
     (λ h. record { long = refl; small = λ i. omega (arith, g.above i zero-le, h.0); blank = λ i e. omega (arith, k.above i e, h.1) })
     (λ c. (omega (arith, g.least (limit - 1) (λ i h. omega (arith, c.small i)), c.small 0), omega (arith, k.least 0 (λ i e. omega (arith, c.blank i e)))))
     (answer_both _ _ (lt_answers a limit) (λ h. eq_answers b 0))
-
--- codes, by how many are not
-pub codes_answer : (l : List ℕ) (limit end a b : ℕ) → Counted l limit 0 a → Counted l 1 end b → Answers (Column (length l) limit end l) (eqb a 0 && eqb b 0)
-codes_answer l limit end a b g k = answer_same
-    (λ h. record { long = refl; small = λ i. g.all h.0 i zero-le; blank = λ i e. omega (arith, k.all h.1 i e) })
-    (λ c. (g.none (λ i h. c.small i), k.none (λ i e. omega (arith, c.blank i e))))
-    (answer_both _ _ (eq_answers a 0) (λ h. eq_answers b 0))
 
 -- ---- runs_valid
 
@@ -75,9 +64,6 @@ count_above l n r zero f g = refl
 count_above l n r (suc k) f g = count_take_ne l r k (λ e. omega (arith, f k)) ∙ count_above l n r k f g
 
 module _ (ls ns h : List ℕ) (k : ℕ) where
-  pub history_too_long : step_limit < k → Answers (HistoryWithin ls ns h k) false
-  history_too_long l = answer_no (λ v. omega (arith, v.few))
-
   module _ (long : length ns ≡ run_limit) (c : Column step_limit run_limit k h) (v : CountsValid ls ns h k run_limit) where
     counts_are : (r : ℕ) → Dec (run_limit ≤ r) → get_or ns r 0 ≡ count (take k h) r
     counts_are r (yes l) = get_or-eq_default ns 0 (omega arith) ∙ sym (count_above h run_limit r k c.small l)

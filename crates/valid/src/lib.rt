@@ -17,13 +17,8 @@ pub fn largest(s: &[u8], start: usize) -> u8
     ensures { Largest s.now start result }
 {
     let mut m: u8 = 0;
-    let mut i = start;
-    while i < s.len() {
-        let x = s[i];
-        if m < x {
-            m = x;
-        }
-        i += 1;
+    for &x in &s[start.min(s.len())..] {
+        m = m.max(x);
     }
     m
 }
@@ -39,10 +34,8 @@ fn others_in(s: &[u64]) -> u64
     ensures { Counted s.now code_limit 0 result }
 {
     let mut n: u64 = 0;
-    let mut i = 0;
-    while i < s.len() {
-        n += (s[i] / Book::TOUCHES + LIFT) / QUOTIENTS;
-        i += 1;
+    for &x in s {
+        n += (x / Book::TOUCHES + LIFT) / QUOTIENTS;
     }
     n
 }
@@ -52,17 +45,16 @@ fn set_from(s: &[u64], start: usize) -> u64
     ensures { Counted s.now 1 start result }
 {
     let mut n: u64 = 0;
-    let mut i = start;
-    while i < s.len() {
-        if 1 <= s[i] {
+    for &x in &s[start.min(s.len())..] {
+        if x != 0 {
             n += 1;
         }
-        i += 1;
     }
     n
 }
 
 // Whether each is 0 or 1.
+#[tactic(auto, using(crate::proofs::Testing::flags_answer))]
 fn flags_in(s: &[u8]) -> bool
     ensures { Answers (Flags (length s.now) s.now) result }
 {
@@ -77,6 +69,7 @@ pub fn are_flags(l: [u8; Book::RUNS]) -> bool
 }
 
 // Whether each is below the limit, and from `end` on 0.
+#[tactic(auto, using(crate::proofs::Testing::column_answer))]
 fn is_column(s: &[u8], limit: u8, end: usize) -> bool
     ensures { Answers (Column (length s.now) limit end s.now) result }
 {
@@ -96,10 +89,8 @@ fn sum_of(s: &[u8]) -> usize
     ensures { result ≡ sum s.now }
 {
     let mut total: usize = 0;
-    let mut i = 0;
-    while i < s.len() {
-        total += book::wide(s[i]);
-        i += 1;
+    for &x in s {
+        total += book::wide(x);
     }
     total
 }
@@ -110,78 +101,60 @@ fn count_of(s: &[u8], n: usize, x: u8) -> u8
     ensures { result ≡ count (take n s.now) x }
 {
     let mut found: u8 = 0;
-    let mut i = 0;
-    while i < n {
-        if s[i] == x {
+    for &y in &s[..n] {
+        if y == x {
             found += 1;
         }
-        i += 1;
     }
     found
 }
 
-// Whether the tables are those of d runs with t steps.
-fn runs_valid<'a>(
-    lengths: &'a [u8; Book::RUNS],
-    steps: &'a [u64; Book::STEPS],
-    d: usize,
-    t: usize,
-) -> bool
-    ensures { Answers (RunsValid lengths.now steps.now d t) result }
+// Whether the book's runs and steps are valid.
+#[tactic(auto, using(crate::proofs::Testing::runs_answer))]
+fn runs_valid(b: &Book) -> bool
+    ensures { Answers (RunsValid b.now.lengths b.now.steps b.now.declared b.now.total) result }
 {
-    let within = (d <= Book::RUNS) & (t <= Book::STEPS);
-    let columns = is_column(lengths, Book::RUN_STEPS as u8 + 1, d) & are_codes(steps, t);
-    within & columns & (sum_of(lengths) == t)
+    let within = (b.declared <= Book::RUNS) & (b.total <= Book::STEPS);
+    let lengths = is_column(&b.lengths, Book::RUN_STEPS as u8 + 1, b.declared);
+    let columns = lengths & are_codes(&b.steps, b.total);
+    within & columns & (sum_of(&b.lengths) == b.total)
 }
 
 // Whether each run's count is that of its done steps, and not above its length.
-fn counts_valid<'a>(
-    lengths: &'a [u8; Book::RUNS],
-    counts: &'a [u8; Book::RUNS],
-    history: &'a [u8; Book::STEPS],
-    done: usize,
-) -> bool
-    requires { done ≤ step_limit }
-    ensures { Answers (CountsValid lengths.now counts.now history.now done run_limit) result }
+fn counts_valid(b: &Book) -> bool
+    requires { b.now.done ≤ step_limit }
+    ensures { Answers (CountsValid b.now.lengths b.now.counts b.now.history b.now.done run_limit) result }
 {
-    let mut r: usize = 0;
-    while r < Book::RUNS {
-        let n = counts[r];
-        if n != count_of(history, done, r as u8) {
+    for (r, &n) in b.counts.iter().enumerate() {
+        if n != count_of(&b.history, b.done, r as u8) {
             return false;
         }
-        if lengths[r] < n {
+        if b.lengths[r] < n {
             return false;
         }
-        r += 1;
     }
     true
 }
 
-// Whether the tables are those of a history of done steps.
-fn history_valid<'a>(
-    lengths: &'a [u8; Book::RUNS],
-    counts: &'a [u8; Book::RUNS],
-    history: &'a [u8; Book::STEPS],
-    done: usize,
-) -> bool
-    ensures { Answers (HistoryWithin lengths.now counts.now history.now done) result }
+// Whether the book's history is valid.
+#[tactic(auto, using(crate::proofs::Testing::history_answer))]
+fn history_valid(b: &Book) -> bool
+    ensures { Answers (HistoryWithin b.now.lengths b.now.counts b.now.history b.now.done) result }
 {
-    if Book::STEPS < done {
+    if Book::STEPS < b.done {
         return false;
     }
-    let column = is_column(history, Book::RUNS as u8, done);
-    let total = sum_of(counts);
-    column & (total == done) & counts_valid(lengths, counts, history, done)
+    let column = is_column(&b.history, Book::RUNS as u8, b.done);
+    column & (sum_of(&b.counts) == b.done) & counts_valid(b)
 }
 
 // Whether the tables are those of a valid book.
+#[tactic(auto, using(crate::proofs::Testing::valid_answer))]
 pub fn is_valid(b: Book) -> bool
     ensures { Answers (Valid b) result }
 {
     let flags = flags_in(&b.pairs) & flags_in(&b.cuts);
-    let runs = runs_valid(&b.lengths, &b.steps, b.declared, b.total);
-    flags & runs & history_valid(&b.lengths, &b.counts, &b.history, b.done)
+    flags & runs_valid(&b) & history_valid(&b)
 }
 
 // Whether each run taken back is withdrawn and has no step kept.
@@ -193,9 +166,8 @@ pub fn taken_back_agree(
 ) -> bool
     ensures { Answers (TakenBackAgree taken_back withdrawn counts) result }
 {
-    let mut r: usize = 0;
-    while r < Book::RUNS {
-        if taken_back[r] != 0 {
+    for (r, &flag) in taken_back.iter().enumerate() {
+        if flag != 0 {
             if withdrawn[r] == 0 {
                 return false;
             }
@@ -203,7 +175,6 @@ pub fn taken_back_agree(
                 return false;
             }
         }
-        r += 1;
     }
     true
 }

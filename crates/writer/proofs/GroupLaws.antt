@@ -13,24 +13,18 @@ use Rattle.buffer.specs.Put.{Put}
 use Rattle.buffer.specs.Each.{each}
 use Rattle.buffer.proofs.PutLaws.{none}
 use Rattle.buffer.proofs.EachLaws.{each_append, each_map}
-use Rattle.buffer.proofs.InTurn.{parts, parts_equal, parts_cons, taken_parts, each_parts, Putting}
-use Rattle.theory.specs.Deck.{Step, single, transfer}
+use Rattle.buffer.specs.Parts.{parts}
+use Rattle.buffer.proofs.InTurn.{parts_equal, parts_cons, each_parts}
+use Rattle.theory.specs.Deck.{Step}
 use Rattle.theory.proofs.Lists.{sum_take, sum_take_mono}
 use Rattle.theory.specs.Lists.{sum}
-use Rattle.book.specs.Format.{pick, Command, pair, run, step, cut, done, step_bytes, command_bytes, width}
+use Rattle.book.specs.Format.{pick, Command, pair, run, step, cut, done, command_bytes, width}
 use Rattle.book.specs.Render.{run_commands}
-use Rattle.book.specs.Book.{code_limit, pair_of, cut_of, step_coded, as_touch, as_step, flagged, runs_of_lengths}
-use Rattle.book.specs.declared.Touch.{Touch as TouchValue}
-use Rattle.book.specs.declared.Step.{Step as StepValue}
-use Rattle.book.specs.declared.Step.TheVariants.{Single, Transfer}
+use Rattle.book.specs.Book.{code_limit, pair_of, cut_of, step_coded, flagged, runs_of_lengths}
 use Rattle.book.proofs.Groups.{runs_snoc}
 use Rattle.book.proofs.RenderLaws.{run_commands_append}
 use Rattle.valid.specs.Inner.Tables.{Largest}
-use Rattle.writer.specs.Inner.Groups.{bytes_of, flag_bytes, pair_commands, cut_commands, cut_commands_from, step_commands, runs_divided, Codes, RunsHeld}
-
--- the first i of n pieces are put, and there is room for all
-abbrev pub PuttingAll : List ℕ → (ℕ → List ℕ) → ℕ → List ℕ → List ℕ → ℕ → ℕ → Type 0
-PuttingAll all f = Putting all f (λ k. length (f k))
+use Rattle.writer.specs.Inner.Groups.{bytes_of, flag_bytes, pair_commands, cut_commands, cut_commands_from, step_commands, pair_piece, cut_piece, block, block_piece, step_piece, done_piece, runs_divided, Codes, RunsHeld}
 
 -- the bytes of commands that a table's elements stand for
 commands_each : {A : Type 0} (g : A → Command) (f : ℕ → A) (xs : List ℕ) → bytes_of (map g (map f xs)) ≡ each (λ i. command_bytes (g (f i))) xs
@@ -73,16 +67,10 @@ module _ (f : ℕ → Command) where
   flagged_pieces : (xs : List ℕ) → each (λ i. command_bytes (f i)) (flagged 0 xs) ≡ parts (flag_piece xs) (length xs)
   flagged_pieces xs = flagged_from xs 0 ∙ parts_equal _ _ (length xs) (λ k _. ap (λ (j : ℕ). flag_bytes (get_or xs k 0) (f j)) (omega arith))
 
-abbrev pub pair_piece : List ℕ → ℕ → List ℕ
-pair_piece = flag_piece (λ i. pair (pair_of i))
-
 pub pair_pieces : (ps : List ℕ) → bytes_of (pair_commands ps) ≡ parts (pair_piece ps) (length ps)
 pair_pieces ps = commands_each pair pair_of (flagged 0 ps) ∙ flagged_pieces (λ i. pair (pair_of i)) ps
 
 -- ---- cuts, of which the first flag is at index first of the table
-
-abbrev pub cut_piece : ℕ → List ℕ → ℕ → List ℕ
-cut_piece first cs k = flag_bytes (get_or cs k 0) (cut (cut_of (first + k)))
 
 pub cut_pieces : (first : ℕ) (cs : List ℕ) → bytes_of (cut_commands_from first cs) ≡ parts (cut_piece first cs) (length cs)
 cut_pieces first cs = commands_each cut cut_of (flagged first cs) ∙ flagged_from (λ i. cut (cut_of i)) cs first
@@ -96,13 +84,6 @@ pub none_put : (first : ℕ) (cs l : List ℕ) (m : ℕ) → Largest cs 0 m → 
 unfolding flag_bytes
 none_put first cs l m z e =
     rw (cut_pieces first cs, parts_empty (cut_piece first cs) (length cs) (λ k. rw (eq-eqb (get_or cs k 0) 0 (omega (arith, z.above k zero-le))))) (none l)
-
--- block k of a table in blocks of w flags
-abbrev pub block : ℕ → List ℕ → ℕ → List ℕ
-block w cs k = take w (drop (k * w) cs)
-
-abbrev pub block_piece : ℕ → List ℕ → ℕ → List ℕ
-block_piece w cs k = bytes_of (cut_commands_from (k * w) (block w cs k))
 
 parts_append : (f : ℕ → List ℕ) (a b : ℕ) → parts f (a + b) ≡ parts f a ++ parts (λ k. f (a + k)) b
 parts_append f a zero = let e : a + 0 ≡ a = omega arith in rw (e, append-nil)
@@ -125,38 +106,11 @@ block_is w cs k = let z : k * w + w - k * w ≡ w = omega arith in rw z
 
 -- ---- steps and done steps
 
-abbrev pub step_piece : List ℕ → ℕ → List ℕ
-step_piece ss k = command_bytes (step (step_coded (get_or ss k 0)))
-
 pub step_pieces : (ss : List ℕ) → bytes_of (step_commands ss) ≡ parts (step_piece ss) (length ss)
 step_pieces ss = commands_each step step_coded ss ∙ each_parts (λ x. command_bytes (step (step_coded x))) ss 0
 
--- what is put is the step that a value of the code's type is
-module _ (x : StepValue) (t : TouchValue) where
-  pub single_room : (n : ℕ) → x ≡ Single t → length (step_bytes (as_step x)) ≤ n → 4 ≤ n
-  single_room n e h = rw e at h
-
-  pub single_put : (before after : List ℕ) (r : ℕ) → x ≡ Single t → Put (step_bytes (single (as_touch t))) before after r → Put (step_bytes (as_step x)) before after r
-  single_put before after r e p = rw e p
-
-  pub transfer_room : (u : TouchValue) (n : ℕ) → x ≡ Transfer t u → length (step_bytes (as_step x)) ≤ n → 7 ≤ n
-  transfer_room u n e h = rw e at h
-
-  pub transfer_put : (u : TouchValue) (before after : List ℕ) (r : ℕ) → x ≡ Transfer t u → Put (step_bytes (transfer (as_touch t) (as_touch u))) before after r → Put (step_bytes (as_step x)) before after r
-  transfer_put u before after r e p = rw e p
-
--- which is that of the code
-pub step_room : (x y : Step) {n : ℕ} → x ≡ y → length (step_bytes y) ≤ n → length (step_bytes x) ≤ n
-step_room x y e h = rw e h
-
-pub step_put : (x y : Step) {before after : List ℕ} {r : ℕ} → x ≡ y → Put (step_bytes x) before after r → Put (step_bytes y) before after r
-step_put x y e p = rw (← e) p
-
-abbrev pub done_piece : List ℕ → ℕ → List ℕ
-done_piece h k = command_bytes (done (get_or h k 0))
-
-pub done_pieces : (h : List ℕ) (n : ℕ) → n ≤ length h → bytes_of (map done (take n h)) ≡ parts (done_piece h) n
-done_pieces h n l = each_map command_bytes done (take n h) ∙ taken_parts (λ r. command_bytes (done r)) h 0 n l
+pub done_pieces : (h : List ℕ) → bytes_of (map done h) ≡ parts (done_piece h) (length h)
+done_pieces h = each_map command_bytes done h ∙ each_parts (λ r. command_bytes (done r)) h 0
 
 -- ---- runs
 

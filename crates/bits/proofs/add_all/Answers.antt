@@ -1,20 +1,14 @@
-use Prim.Native.Nat.{max}
+use mathlib.Core.Path.{◌≡◌}
 use native.Mathlib.Omega.{arith}
-use Rattle.bits.proofs.Word.{bit_of_or}
-use Rattle.bits.proofs.Store.{replaced_none, replaced_all, combined_more, in_word}
 use borrow.Author.Rules.{rules}
+use lib.ListN.{get_or}
+use lib.Bits.{bit_or}
+use Rattle.bits.proofs.Store.{changed_to, word_is, word_or}
 use Rattle.bits.proofs.add_all.Goals as goal
 
-pub loop-k-init : goal.loop-k-init
-loop-k-init c = (search rules, replaced_none _ _ _)
-
-pub loop-k-preserved : goal.loop-k-preserved
-loop-k-preserved c =
-    let h = c in (
-      h.loop-k.invariant.0,
-      combined_more max _ _ 0 _ _ _ _ _ (omega arith) (omega arith) (omega arith) h.loop-k.invariant.1
-          (bit_of_or _ _) (λ x e. in_word _ _ 0 x (omega arith)),
-    )
-
 pub returns : goal.returns
-returns c = replaced_all (omega arith) c.loop-k.invariant.1
+returns c =
+    let a = c.args in
+    changed_to c.change_row.ensures (λ k w v h o p.
+    let e : v ≡ bit_or w (get_or a.n.now k 0) = search rules in
+    rw e (word_or o (word_is a.n.now 0 (omega arith))))

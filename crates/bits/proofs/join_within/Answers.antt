@@ -1,22 +1,16 @@
-use Prim.Native.Nat.{min, max}
-use mathlib.Core.Path.{refl}
-use Rattle.bits.proofs.Word.{bit_of_and, bit_of_or}
+use mathlib.Core.Path.{◌≡◌, refl}
+use Prim.Native.Nat.{◌+◌, ◌*◌}
 use native.Mathlib.Omega.{arith}
-use Rattle.bits.proofs.Store.{replaced_none, replaced_all, combined_more, in_words}
 use borrow.Author.Rules.{rules}
+use lib.ListN.{get_or}
+use lib.Bits.{bit_and, bit_or}
+use Rattle.bits.specs.Table.{row_words}
+use Rattle.bits.proofs.Store.{changed_to, word_is, word_or, word_and}
 use Rattle.bits.proofs.join_within.Goals as goal
 
-pub loop-k-init : goal.loop-k-init
-loop-k-init c = (search rules, replaced_none _ _ _)
-
-pub loop-k-preserved : goal.loop-k-preserved
-loop-k-preserved c =
-    let h = c in
-    let a = h.args in (
-      h.loop-k.invariant.0,
-      combined_more max _ _ a.dst _ _ _ _ _ (omega arith) (omega arith) (omega arith) h.loop-k.invariant.1
-          (bit_of_or _ _) (in_words min _ _ _ _ _ _ refl (λ j l. bit_of_and _ _ j)),
-    )
-
 pub returns : goal.returns
-returns c = replaced_all (omega arith) c.loop-k.invariant.1
+returns c =
+    let a = c.args in
+    changed_to c.change_row.ensures (λ k w v h o p.
+    let e : v ≡ bit_or w (bit_and (get_or a.u.now (row_words * a.src + k) 0) (get_or a.mask.now k 0)) = search rules in
+    rw e (word_or o (word_and (word_is a.u.now a.src refl) (word_is a.mask.now 0 (omega arith)))))

@@ -1,18 +1,15 @@
-use native.Mathlib.Omega.{arith}
-use Rattle.bits.proofs.Store.{replaced_none, copied_more, copied_all}
+use mathlib.Core.Path.{◌≡◌, refl}
+use Prim.Native.Nat.{◌+◌, ◌*◌}
 use borrow.Author.Rules.{rules}
+use lib.ListN.{get_or}
+use Rattle.bits.specs.Table.{row_words, bit_at}
+use Rattle.bits.proofs.Store.{changed_to, word_is}
 use Rattle.bits.proofs.row_of.Goals as goal
 
-pub loop-k-init : goal.loop-k-init
-loop-k-init c = (search rules, replaced_none _ _ _)
-
-pub loop-k-preserved : goal.loop-k-preserved
-loop-k-preserved c =
-    let h = c in
-    let a = h.args in (
-      h.loop-k.invariant.0,
-      copied_more _ _ _ 0 a.row _ _ _ (omega arith) (omega arith) (omega arith) (omega arith) h.loop-k.invariant.1,
-    )
-
 pub returns : goal.returns
-returns c = copied_all (omega arith) c.loop-k.invariant.1
+returns c =
+    let a = c.args in
+    let r = changed_to {f = bit_at a.t.now a.row} c.change_row.ensures (λ k w v h o p.
+    let e : v ≡ get_or a.t.now (row_words * a.row + k) 0 = search rules in
+    rw e (word_is a.t.now a.row refl)) in
+    record { same = r.here }

@@ -1,11 +1,6 @@
 -- The invariant `Filled`: the tables hold the first n of the list as a history. Each turn adds one step, which its run has left.
-use lib.ListN.{length}
-use Prim.Native.Nat.{◌-◌}
 use Rattle.book.proofs.WithHistory.{Filled}
 use Rattle.book.proofs.with_history.Given as goal
 
 abbrev pub invariant-loop-n : goal.invariant-loop-n
 invariant-loop-n l = Filled l.b l.list l.counts l.history l.n
-
-abbrev pub decreases-loop-n : goal.decreases-loop-n
-decreases-loop-n l = length l.list - l.n

@@ -1,17 +1,19 @@
-use native.Mathlib.Omega.{arith}
+use mathlib.Core.Path.{refl}
+use mathlib.Core.Bool.{true, false}
+use borrow.Author.Rules.{rules}
+use Rattle.theory.specs.Answers.{Answers}
 use Rattle.theory.proofs.Answered.{refute}
-use Rattle.classes.proofs.Searched.{no_pair_yet, no_pair_more}
-use Rattle.classes.proofs.ClassLaws.{relserial_yes, relserial_no}
+use Rattle.classes.specs.Inner.Tables.{ViolatesIn}
+use Rattle.classes.proofs.ClassLaws.{relserial_answer}
 use Rattle.classes.proofs.relatively_serial_by.Goals as goal
 
-pub loop-c-init : goal.loop-c-init
-loop-c-init c = no_pair_yet _
-
-pub returns-then-not-none_violates : goal.returns-then-not-none_violates
-returns-then-not-none_violates c = relserial_no _ _ c.requires.0 _ _ _ _ (omega arith) (refute c.none_violates.ensures c.if-not-none_violates.true)
-
-pub loop-c-preserved : goal.loop-c-preserved
-loop-c-preserved c = no_pair_more _ _ c.loop-c.invariant (c.none_violates.ensures.sound c.if-not-none_violates.false)
-
 pub returns : goal.returns
-returns c = relserial_yes _ _ c.requires.0 _ _ _ (record { none = λ a b k i. c.loop-c.invariant.none a b k (omega arith) })
+returns c =
+    relserial_answer _ _ c.requires.0 _ _ _ c.no_pair.result
+    (λ e. record {
+      none = λ z j b k. let h = c.no_pair.ensures.none e z j b k in
+          let a : Answers (ViolatesIn c.args.history.now c.args.firsts.now c.args.lasts.now c.args.dep.now b z) false = search rules in refute a refl;
+    })
+    (λ e. let s = c.no_pair.ensures.some e in
+    let a : Answers (ViolatesIn c.args.history.now c.args.firsts.now c.args.lasts.now c.args.dep.now s.1.1.0 s.0) true = (let h = s.1.1.1.1 in search rules) in
+    record { c = s.0; inside = s.1.0; b = s.1.1.0; before = s.1.1.1.0; holds = a.sound refl })

@@ -1,13 +1,10 @@
 use Rattle.bits.specs.Table.{row_words}
-use Rattle.classes.proofs.SerialLaws.{together_none, together_all, met_after, together_same, apart, together_new}
+use Rattle.classes.proofs.SerialLaws.{together_none, together_all, together_same, apart, together_new}
 use Rattle.classes.proofs.stands_together.Goals.{then-has+else-run_of-r, else-has}
 use Rattle.classes.proofs.stands_together.Goals as goal
 
 pub loop-p-init : goal.loop-p-init
 loop-p-init c = together_none _ row_words
-
-pub overflow_sub-p : goal.overflow_sub-p
-overflow_sub-p c = search met_after
 
 pub returns-then-run_of-r : goal.returns-then-run_of-r
 returns-then-run_of-r c = search apart

@@ -6,11 +6,7 @@ use Rattle.demands.proofs.nested_deck_classes.Goals as goal
 
 pub returns : goal.returns
 returns c =
-    let judge = c in
-    let conflict = judge in
-    let relserial = conflict in
-    let atomic = relserial in
-    let answers = deck_answered atomic.deck_serial.ensures atomic.deck_atomic.ensures relserial.deck_relserial.ensures conflict.deck_conflict.ensures judge.deck_judge.ensures (omega arith) (omega arith) in
+    let answers = deck_answered c.deck_serial.ensures c.deck_atomic.ensures c.deck_relserial.ensures c.deck_conflict.ensures c.deck_judge.ensures (omega arith) (omega arith) in
     record {
       promised = answers;
       nested = classes_nested.deck_calls _ _ _ _ _ _ answers;

@@ -1,5 +1,5 @@
 -- A transfer conflicts with what either of its touches conflicts with.
-use Rattle.dependence.proofs.Touches.{single_low, first_low, second_low, single_finds, both_find}
+use Rattle.dependence.proofs.Touches.{single_low, first_low, second_low, both_find}
 use Rattle.dependence.proofs.conflicting_steps.Goals as goal
 
 pub touching-requires : goal.touching-requires
@@ -10,9 +10,6 @@ touching-m-requires c = search first_low
 
 pub touching-n-requires : goal.touching-n-requires
 touching-n-requires c = search (second_low, first_low)
-
-pub returns-in-Single : goal.returns-in-Single
-returns-in-Single c = search single_finds
 
 pub returns-in-Transfer : goal.returns-in-Transfer
 returns-in-Transfer c = search both_find

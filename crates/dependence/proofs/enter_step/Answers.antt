@@ -1,5 +1,5 @@
 -- Each way out has entered the touches that x has.
-use Rattle.dependence.proofs.Touches.{single_low, first_low, second_low, single_entered, transfer_entered}
+use Rattle.dependence.proofs.Touches.{single_low, first_low, second_low}
 use borrow.Author.Rules.{rules}
 use Rattle.dependence.proofs.enter_step.Goals as goal
 
@@ -11,9 +11,3 @@ enter-requires-in-Transfer c = search (rules, first_low)
 
 pub enter-requires-in-Transfer-2 : goal.enter-requires-in-Transfer-2
 enter-requires-in-Transfer-2 c = search (rules, second_low, first_low)
-
-pub returns-in-Single : goal.returns-in-Single
-returns-in-Single c = search single_entered
-
-pub returns-in-Transfer : goal.returns-in-Transfer
-returns-in-Transfer c = search transfer_entered

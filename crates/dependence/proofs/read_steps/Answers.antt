@@ -1,18 +1,9 @@
-use Rattle.dependence.proofs.Steps.{read_none, read_index, read_fits, read_more, read_all}
+use Rattle.dependence.proofs.Steps.{next_left, read_more}
 use borrow.Author.Rules.{rules}
 use Rattle.dependence.proofs.read_steps.Goals as goal
 
-pub loop-q-init : goal.loop-q-init
-loop-q-init c = search (rules, read_none)
-
-pub step_at-x-requires : goal.step_at-x-requires
-step_at-x-requires c = (search read_index, search rules)
-
-pub overflow_add-next : goal.overflow_add-next
-overflow_add-next c = search (rules, read_fits)
+pub next_step-r-requires-clause-left : goal.next_step-r-requires-clause-left
+next_step-r-requires-clause-left c = search (rules, next_left)
 
 pub loop-q-preserved : goal.loop-q-preserved
 loop-q-preserved c = search read_more
-
-pub returns : goal.returns
-returns c = search read_all

@@ -1,5 +1,5 @@
 -- What the tables of a history's steps hold.
-use Rattle.std.specs.Prelude.{ℕ, ◌+◌, ◌*◌, ◌≤◌, ◌<◌, ◌≡◌, Bool, List, length, get_or, take}
+use Rattle.std.specs.Prelude.{ℕ, ◌+◌, ◌*◌, ◌≤◌, ◌<◌, ◌≡◌, Bool, List, length, get_or, take, set}
 use Rattle.bits.specs.Table.{row_bits, bit_at}
 use Rattle.book.specs.Format.{run_limit, run_step_limit, step_limit}
 use Rattle.book.specs.Book.{step_coded, as_step}
@@ -50,6 +50,12 @@ step_in steps i = step_coded (get_or steps i 0)
 pub record StepAt (steps : List ℕ) (i : ℕ) (x : StepValue) : Type 0 where
   pub is : as_step x ≡ step_in steps i
   pub kinds : KindsLow (as_step x)
+
+-- r is the run of place q and x its next step, and then the next step of r is the one behind
+pub record NextTaken (history steps next next' : List ℕ) (q r : ℕ) (x : StepValue) : Type 0 where
+  pub of_run : NumberAt history q run_limit r
+  pub step : StepAt steps (get_or next r 0) x
+  pub one_more : next' ≡ set next r (get_or next r 0 + 1)
 
 -- the steps of h are, in these runs, those that the table has of runs of these lengths, one behind the other
 pub record StepsOf (runs : List (List Step)) (h lengths steps : List ℕ) : Type 0 where

@@ -1,11 +1,7 @@
 -- Where l is an order that agrees, the book may have it as its history, and its test for relatively serial is that of l.
 use borrow.Author.Rules.{rules}
-use Rattle.dependence.proofs.BookTables.{book_history}
 use Rattle.evidence.proofs.BookLaws.{not_equivalent, order_allowed, order_answer}
 use Rattle.evidence.proofs.is_relatively_serial_order.Goals as goal
-
-pub equivalent_by-requires : goal.equivalent_by-requires
-equivalent_by-requires c = search book_history
 
 pub returns-then-not-equivalent_by : goal.returns-then-not-equivalent_by
 returns-then-not-equivalent_by c = search not_equivalent

@@ -1,16 +1,6 @@
--- The tables are those of the book's contents, so the names read off them are those of its graph.
-use Rattle.dependence.proofs.DependenceRows.{blank_zeros}
-use Rattle.dependence.proofs.BookTables.{book_history}
-use Rattle.graph.proofs.BookTables.{book_some_tables}
-use Rattle.evidence.proofs.BookLaws.{book_names}
-use borrow.Author.Rules.{rules}
+-- The graph is that of the book's contents, so the names read off it are those of its graph.
+use Rattle.evidence.proofs.BookLaws.{graph_names}
 use Rattle.evidence.proofs.names_of.Goals as goal
 
-pub tables-requires : goal.tables-requires
-tables-requires c = (search rules, search blank_zeros, search blank_zeros)
-
-pub arc_names-requires : goal.arc_names-requires
-arc_names-requires c = (search book_history, search rules, search book_some_tables)
-
 pub returns : goal.returns
-returns c = search book_names
+returns c = search graph_names

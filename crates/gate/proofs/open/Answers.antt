@@ -1,11 +1,10 @@
--- `open` is right: the gate's book is the one that was read without its history, and no flag is set.
-use Prim.Native.Nat.{zero-le}
-use Rattle.gate.proofs.Records.{opened_as}
-use borrow.Author.Rules.{rules}
+-- `open` is right: the gate is newly opened over the book that was read, or over the empty one.
+use Rattle.book.proofs.Empty.{represents_empty}
+use Rattle.gate.proofs.Records.{opened_refused}
 use Rattle.gate.proofs.open.Goals as goal
 
-pub with_history-b-requires : goal.with_history-b-requires
-with_history-b-requires c = (search rules, λ r. zero-le)
+pub returns-in-Err : goal.returns-in-Err
+returns-in-Err c = opened_refused _ _ _ c.in-Err.ensures (rw c.empty.ensures at c.over-in-Err.ensures)
 
-pub returns : goal.returns
-returns c = search opened_as
+pub over-requires-in-Err : goal.over-requires-in-Err
+over-requires-in-Err c = rw c.empty.ensures represents_empty.valid

@@ -1,9 +1,6 @@
-use Rattle.graph.proofs.Numbering.{numbered_none, number_fits, number_index, number_more, numbered_all}
+use Rattle.graph.proofs.Numbering.{number_fits, number_index, number_more}
 use borrow.Author.Rules.{rules}
 use Rattle.graph.proofs.number_places.Goals as goal
-
-pub loop-p-init : goal.loop-p-init
-loop-p-init c = (search rules, search numbered_none)
 
 pub bounds-places-r : goal.bounds-places-r
 bounds-places-r c = search number_index
@@ -13,6 +10,3 @@ overflow_add-counts c = search number_fits
 
 pub loop-p-preserved : goal.loop-p-preserved
 loop-p-preserved c = (search rules, search number_more)
-
-pub returns : goal.returns
-returns c = search numbered_all

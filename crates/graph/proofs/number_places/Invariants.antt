@@ -1,5 +1,4 @@
 -- Before each turn `counts` has the number of steps of each run at the places below p.
-use Prim.Native.Nat.{◌-◌}
 use mathlib.Core.Path.{◌≡◌}
 use lib.ListN.{length, take}
 use Rattle.book.specs.Format.{run_limit}
@@ -8,6 +7,3 @@ use Rattle.graph.proofs.number_places.Given as goal
 
 abbrev pub invariant-loop-p : goal.invariant-loop-p
 invariant-loop-p l = (length l.counts ≡ run_limit) × NumberedBelow (take l.n l.history) l.ordinals l.places l.counts l.n l.p
-
-abbrev pub decreases-loop-p : goal.decreases-loop-p
-decreases-loop-p l = l.n - l.p

@@ -1,13 +1,26 @@
--- What the functions that make the arc rows promise one another.
-use Rattle.std.specs.Prelude.{ℕ, ◌+◌, ◌*◌, ◌≤◌, ◌<◌, ◌≡◌, ◌⊎◌, Bool, List, get_or, take}
+-- What the functions that make the arc rows promise one another, and what a graph is made of.
+use Rattle.std.specs.Prelude.{ℕ, ◌+◌, ◌*◌, ◌<◌, ◌≡◌, ◌⊎◌, Bool, List, get_or, take}
 use Rattle.bits.specs.Table.{row_bits, rows, bit_at}
 use Rattle.theory.specs.History.{run}
-use Rattle.theory.specs.Relative.{Depends}
 use Rattle.theory.specs.Graph.{FirstOf, LastOf, ArcI, ArcD, Arc}
 use Rattle.book.specs.Format.{run_limit}
 use Rattle.dependence.specs.Marks.{Marks, Columns}
-use Rattle.dependence.specs.Inner.Tables.{HistoryOf, InRun}
-use Rattle.graph.specs.Units.{Firsts, Lasts}
+use Rattle.dependence.specs.Inner.Tables.{InRun}
+use Rattle.graph.specs.Inner.Tables.{TablesBy, TablesOf}
+use Rattle.graph.specs.declared.graph.Graph.{Graph}
+
+-- the history of a graph
+abbrev pub done : Graph → List ℕ
+done g = take g.n g.history
+
+-- a conflict and units whose tables the graph has
+abbrev pub TablesIn : Graph → Type 0
+TablesIn g = TablesOf (done g) g.dep g.firsts g.lasts
+
+-- the graph is that of h, with this conflict and these units
+pub record GraphOf (conflict : ℕ → ℕ → ℕ → ℕ → Bool) (unit : ℕ → ℕ → ℕ → ℕ) (h : List ℕ) (g : Graph) : Type 0 where
+  pub history_is : done g ≡ h
+  pub tables_are : TablesBy conflict unit (done g) g.dep g.firsts g.lasts
 
 -- u is t with the bits that H tells
 pub record Gained (H : ℕ → ℕ → Type 0) (t u : List ℕ) : Type 0 where
@@ -36,33 +49,18 @@ ArcOfPlaces conflict unit h r m = Below (ArcOf conflict unit h r) m
 abbrev pub ArcOfRuns : (ℕ → ℕ → ℕ → ℕ → Bool) → (ℕ → ℕ → ℕ → ℕ) → List ℕ → ℕ → ℕ → ℕ → ℕ → Type 0
 ArcOfRuns conflict unit h n m = Below (λ r. Below (ArcOf conflict unit h r) n) m
 
--- the tables are those of h, with this conflict and these units
-pub record TablesBy (conflict : ℕ → ℕ → ℕ → ℕ → Bool) (unit : ℕ → ℕ → ℕ → ℕ) (h dep firsts lasts : List ℕ) : Type 0 where
-  pub rises : (r o i j : ℕ) → i ≤ j → unit r o i ≤ unit r o j
-  pub dep_marks : Marks (Depends conflict h) dep
-  pub firsts_are : Firsts unit h firsts
-  pub lasts_are : Lasts unit h lasts
-
--- with some conflict and units
-pub record TablesOf (h dep firsts lasts : List ℕ) : Type 0 where
-  pub conflict : ℕ → ℕ → ℕ → ℕ → Bool
-  pub unit : ℕ → ℕ → ℕ → ℕ
-  pub by : TablesBy conflict unit h dep firsts lasts
-
--- u is t with the bits that H tells of i and j, for any conflict and units whose tables these are
+-- u is t with the bits that H tells of i and j, for any conflict and units whose tables the graph has
 pub record GainedBy (H : (ℕ → ℕ → ℕ → ℕ → Bool) → (ℕ → ℕ → ℕ → ℕ) → List ℕ → ℕ → ℕ → ℕ → ℕ → Type 0)
-    (h dep firsts lasts : List ℕ) (i j : ℕ) (t u : List ℕ) : Type 0 where
-  pub by : (a : TablesOf h dep firsts lasts) → Gained (H a.conflict a.unit h i j) t u
+    (g : Graph) (i j : ℕ) (t u : List ℕ) : Type 0 where
+  pub by : (a : TablesIn g) → Gained (H a.conflict a.unit (done g) i j) t u
 
--- the arc rows of any conflict and units whose tables these are
-pub record ArcRows (h dep firsts lasts arc : List ℕ) : Type 0 where
-  pub marks : (a : TablesOf h dep firsts lasts) → Marks (Arc a.conflict a.unit h) arc
+-- the arc rows of any conflict and units whose tables the graph has
+pub record ArcRows (g : Graph) (arc : List ℕ) : Type 0 where
+  pub marks : (a : TablesIn g) → Marks (Arc a.conflict a.unit (done g)) arc
 
--- a history with its tables and the places of one of its runs
-pub record ArcInput (history : List ℕ) (n : ℕ) (dep firsts lasts mask : List ℕ) (r : ℕ) : Type 0 where
-  pub stored : HistoryOf history n
-  pub tables : TablesOf (take n history) dep firsts lasts
-  pub mask_is : Columns (λ p. InRun (take n history) n p r) mask
+-- the mask has the places of run r
+pub record RunMask (g : Graph) (mask : List ℕ) (r : ℕ) : Type 0 where
+  pub mask_is : Columns (λ p. InRun (done g) g.n p r) mask
   pub small : r < run_limit
 
 -- the rows of the places below n hold places

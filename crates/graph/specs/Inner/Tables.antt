@@ -1,10 +1,12 @@
 -- What the tables of units hold.
-use Rattle.std.specs.Prelude.{ℕ, zero, suc, ◌+◌, ◌*◌, ◌≤◌, ◌<◌, ◌≡◌, ◌≢◌, List, length, get_or}
+use Rattle.std.specs.Prelude.{ℕ, zero, suc, Bool, ◌+◌, ◌*◌, ◌≤◌, ◌<◌, ◌≡◌, ◌≢◌, List, length, get_or}
 use Rattle.book.specs.Format.{run_limit, run_step_limit, step_limit}
 use Rattle.book.specs.Book.{cuts_size, run_cuts}
 use Rattle.theory.specs.History.{count, ordinal}
 use Rattle.theory.specs.Inner.Places.{place_of}
-use Rattle.graph.specs.Units.{EachPlace}
+use Rattle.theory.specs.Relative.{Depends}
+use Rattle.dependence.specs.Marks.{Marks}
+use Rattle.graph.specs.Units.{EachPlace, Firsts, Lasts}
 
 -- the size of a table of a place for each step, by run and ordinal
 abbrev pub places_size : ℕ
@@ -48,3 +50,16 @@ by_flag (suc n) a b = b
 -- of each run o, what stands in t at `from`, or p where there is a cut
 abbrev pub copied_row : List ℕ → ℕ → List ℕ → ℕ → ℕ → ℕ → ℕ
 copied_row cuts at t p from o = by_flag (get_or cuts (at + o) 0) (get_or t (from * run_limit + o) 0) p
+
+-- the tables are those of h, with this conflict and these units
+pub record TablesBy (conflict : ℕ → ℕ → ℕ → ℕ → Bool) (unit : ℕ → ℕ → ℕ → ℕ) (h dep firsts lasts : List ℕ) : Type 0 where
+  pub rises : (r o i j : ℕ) → i ≤ j → unit r o i ≤ unit r o j
+  pub dep_marks : Marks (Depends conflict h) dep
+  pub firsts_are : Firsts unit h firsts
+  pub lasts_are : Lasts unit h lasts
+
+-- with some conflict and units
+pub record TablesOf (h dep firsts lasts : List ℕ) : Type 0 where
+  pub conflict : ℕ → ℕ → ℕ → ℕ → Bool
+  pub unit : ℕ → ℕ → ℕ → ℕ
+  pub by : TablesBy conflict unit h dep firsts lasts

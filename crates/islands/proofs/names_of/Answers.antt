@@ -1,12 +1,10 @@
-use Rattle.islands.proofs.Naming.{own_up_to, declared_few, book_names}
-use borrow.Author.Rules.{rules}
+use native.Mathlib.Omega.{arith}
+use Rattle.islands.proofs.Naming.{own_up_to, book_names}
+use Rattle.islands.proofs.Listing.{own_all}
 use Rattle.islands.proofs.names_of.Goals as goal
 
 pub loop-r-init : goal.loop-r-init
-loop-r-init c = search own_up_to
-
-pub connect_run-u-requires : goal.connect_run-u-requires
-connect_run-u-requires c = (search declared_few, search rules, search rules)
+loop-r-init c = own_up_to _ _ _ _ (own_all _ _ c.loop-k.invariant (omega arith))
 
 pub returns : goal.returns
 returns c = search book_names

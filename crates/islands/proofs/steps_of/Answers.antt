@@ -1,13 +1,9 @@
--- The history of the book with the steps of the island, or 27 where the run is no island's smallest.
-use Rattle.islands.proofs.Naming.{declared_few}
+-- The history of the book with the island's steps, or the refusal.
 use Rattle.islands.proofs.Calls.{steps_found, steps_none}
 use Rattle.islands.proofs.steps_of.Goals as goal
 
-pub is_smallest-requires : goal.is_smallest-requires
-is_smallest-requires c = search declared_few
-
-pub returns-then-is_smallest : goal.returns-then-is_smallest
-returns-then-is_smallest c = search steps_found
+pub returns-in_err-flags : goal.returns-in_err-flags
+returns-in_err-flags c = steps_none _ _ _ c.in_err-flags.ensures _ c.from_residual.ensures.1
 
 pub returns : goal.returns
-returns c = search steps_none
+returns c = steps_found _ _ _ c.in_ok-flags.ensures _ c.leave_out-part.ensures

@@ -1,12 +1,16 @@
 -- The name of each run's component, in an array, and how it is found join by join.
-use Rattle.std.specs.Prelude.{ℕ, ◌+◌, ◌*◌, ◌<◌, min, max, ◌≡◌, ◌⊎◌, cond, List, length, get_or, eqb}
+use Rattle.std.specs.Prelude.{Result, Ok, Err, ℕ, ◌+◌, ◌*◌, ◌<◌, min, max, ◌≡◌, ◌⊎◌, cond, List, length, get_or, eqb}
 use Rattle.bits.specs.Table.{row_bits, bit_at}
 use Rattle.theory.specs.Components.{Components}
 use Rattle.theory.proofs.Connected.{Names}
-use Rattle.book.specs.Format.{run_limit}
-use Rattle.book.specs.Book.{unflagged, contents_of}
+use Rattle.theory.specs.History.{project}
+use Rattle.book.specs.Format.{Contents, run_limit, with_history}
+use Rattle.book.specs.Book.{unflagged, contents_of, refusal_at}
 use Rattle.book.specs.Meaning.{conflict_of}
 use Rattle.book.specs.declared.Book.{Book}
+use Rattle.book.specs.declared.Refusal.{Refusal}
+use Rattle.book.specs.declared.Cause.TheVariants.{NoIsland}
+use Rattle.islands.specs.Islands.{IslandsOf, Smallest, island_book}
 use Rattle.dependence.specs.Catalogue.{base, run_part}
 
 -- the name of run r in the array t; a run for which it has no room has its own number
@@ -66,3 +70,21 @@ pub record HasOwnName (t : List ℕ) (n m : ℕ) : Type 0 where
 -- the flags of the runs that do not have the name m
 pub record OthersFlagged (t : List ℕ) (m : ℕ) (flags : List ℕ) : Type 0 where
   pub at : (k : ℕ) → k < run_limit → unflagged flags k ≡ eqb (get_or t k 0) m
+
+-- m is the smallest run of its island, and the flags are those of the other islands' runs
+pub record OutsideFlagged (c : Contents) (m : ℕ) (flags : List ℕ) : Type 0 where
+  pub name : ℕ → ℕ
+  pub islands : IslandsOf c name
+  pub smallest : Smallest c name m
+  pub left : with_history c (project (unflagged flags) c.history) ≡ island_book c name m
+
+-- m is no island's smallest run, and the refusal is 27
+pub record NoIslandOf (c : Contents) (m : ℕ) (e : Refusal) : Type 0 where
+  pub name : ℕ → ℕ
+  pub islands : IslandsOf c name
+  pub not_smallest : ¬ Smallest c name m
+  pub is : e ≡ refusal_at NoIsland 0
+
+abbrev pub OutsideFound : Contents → ℕ → Result (List ℕ) Refusal → Type 0
+OutsideFound c m (Ok flags) = OutsideFlagged c m flags
+OutsideFound c m (Err e) = NoIslandOf c m e

@@ -1,5 +1,5 @@
 -- What the reader's own functions promise each other. No part of the statement of `read`.
-use Rattle.std.specs.Prelude.{ℕ, ◌+◌, ◌-◌, ◌≤◌, ◌<◌, ◌≡◌, List, length, get_or}
+use Rattle.std.specs.Prelude.{ℕ, ◌+◌, ◌-◌, ◌≤◌, ◌<◌, ◌≡◌, List, Result, Ok, Err, length, get_or}
 use Rattle.theory.specs.Deck.{single, transfer, Step as DeckStep}
 use Rattle.book.specs.Format.{position_limit, run_limit, step_limit, length_limit, ReadState, Move, on, over, refused, accepted, Command, pair, run, step, cut, done, width, next_state, obeyed, obey, command_at}
 use Rattle.book.specs.Book.{set_counts, pairs_size, cuts_size, pair_of, cut_of, step_coded, as_step, contents_of, Valid}
@@ -7,11 +7,18 @@ use Rattle.book.specs.Inner.Room.{Next, RoomFlag, RoomStep, RoomDone}
 use Rattle.book.specs.declared.Rules.{Rules}
 use Rattle.book.specs.declared.Step.{Step as StepValue}
 use Rattle.book.specs.declared.Book.{Book}
-use Rattle.book.specs.declared.Answer.TheVariants.{Accepted}
-use Rattle.book.specs.declared.Reading.{Reading}
 use Rattle.reader.specs.declared.Progress.{Progress}
-use Rattle.reader.specs.declared.Parsed.{Parsed}
-use Rattle.reader.specs.declared.Parsed.TheVariants.{Pair, Run, Step, Cut, Done, End, Refused}
+use Rattle.book.specs.declared.Cause.{Cause}
+use Rattle.book.specs.declared.Refusal.{Refusal}
+use Rattle.reader.specs.declared.Command.{Command as CommandValue}
+use Rattle.reader.specs.declared.Command.TheVariants.{Pair, Run, Step, Cut, Done, End}
+
+-- what a command's function answers
+abbrev pub Parsed : Type 0
+Parsed = Result CommandValue Refusal
+
+abbrev pub refusal : Cause → ℕ → Refusal
+refusal c i = record { cause = c; place = i }
 
 abbrev pub progress : Rules → ℕ → ℕ → ℕ → ℕ → ℕ → ℕ → ℕ → Progress
 progress ρ g i j l d t k = record { rules = ρ; group = g; next_pair = i; next_cut = j; last = l; declared = d; total = t; done = k }
@@ -38,9 +45,6 @@ past_done p = progress p.rules 3 p.next_pair p.next_cut p.last p.declared p.tota
 -- the book of the tables so far, whose counts the progress has
 abbrev pub so_far : Book → Progress → Book
 so_far b p = set_counts b p.declared p.total p.done
-
-abbrev pub accepted_as : Book → Progress → Reading
-accepted_as b p = record { answer = Accepted; book = so_far b p }
 
 -- where the format's reader stands
 abbrev pub read_state_of : Book → Progress → ReadState
@@ -75,25 +79,33 @@ pub record Inside (s : List ℕ) (at : ℕ) (p : Progress) : Type 0 where
   pub begun : at < length s
   pub limited : Limited p
 
+-- the n bytes behind that at the offset
+pub record Operands (s : List ℕ) (at n : ℕ) (bs : List ℕ) : Type 0 where
+  pub there : n + 1 ≤ length s - at
+  pub byte : (i : ℕ) → i < n → get_or bs i 0 ≡ get_or s (at + (i + 1)) 0
+
 -- the move that a command stands for
 abbrev pub move_of : Parsed → ℕ → ReadState → Move
-move_of (Pair i) at t = obeyed (pair (pair_of i)) at t
-move_of Run at t = obeyed (run (length t.contents.runs)) at t
-move_of (Step c n) at t = on (at + n) (next_state (step (step_coded c)) t)
-move_of (Cut i) at t = obeyed (cut (cut_of i)) at t
-move_of (Done r) at t = obeyed (done r) at t
-move_of End at t = over (accepted t.contents)
-move_of (Refused c i) at t = over (refused c i)
+move_of (Ok (Pair i)) at t = obeyed (pair (pair_of i)) at t
+move_of (Ok Run) at t = obeyed (run (length t.contents.runs)) at t
+move_of (Ok (Step c n)) at t = on (at + n) (next_state (step (step_coded c)) t)
+move_of (Ok (Cut i)) at t = obeyed (cut (cut_of i)) at t
+move_of (Ok (Done r)) at t = obeyed (done r) at t
+move_of (Ok End) at t = over (accepted t.contents)
+move_of (Err r) at t = over (refused r.cause r.place)
 
--- the bytes of a command
+-- the bytes of a command; a refusal takes none
+abbrev pub command_width : CommandValue → ℕ
+command_width (Pair i) = width (pair (pair_of i))
+command_width Run = width (run 0)
+command_width (Step c n) = n
+command_width (Cut i) = width (cut (cut_of i))
+command_width (Done r) = width (done r)
+command_width End = 1
+
 abbrev pub width_of : Parsed → ℕ
-width_of (Pair i) = width (pair (pair_of i))
-width_of Run = width (run 0)
-width_of (Step c n) = n
-width_of (Cut i) = width (cut (cut_of i))
-width_of (Done r) = width (done r)
-width_of End = 1
-width_of (Refused c i) = 0
+width_of (Ok c) = command_width c
+width_of (Err r) = 0
 
 -- for a step of code c and n bytes
 pub record StepRoom (b : Book) (p : Progress) (c n : ℕ) : Type 0 where
@@ -101,13 +113,13 @@ pub record StepRoom (b : Book) (p : Progress) (c n : ℕ) : Type 0 where
   pub wide : n ≡ width (step (step_coded c))
 
 abbrev pub Room : Parsed → Book → Progress → Type 0
-Room (Pair i) b p = RoomFlag pairs_size p.next_pair i
-Room Run b p = p.declared < run_limit
-Room (Step c n) b p = StepRoom b p c n
-Room (Cut i) b p = RoomFlag cuts_size p.next_cut i
-Room (Done r) b p = RoomDone b.lengths b.counts p.declared r
-Room End b p = Unit {0}
-Room (Refused c i) b p = Unit {0}
+Room (Ok (Pair i)) b p = RoomFlag pairs_size p.next_pair i
+Room (Ok Run) b p = p.declared < run_limit
+Room (Ok (Step c n)) b p = StepRoom b p c n
+Room (Ok (Cut i)) b p = RoomFlag cuts_size p.next_cut i
+Room (Ok (Done r)) b p = RoomDone b.lengths b.counts p.declared r
+Room (Ok End) b p = Unit {0}
+Room (Err r) b p = Unit {0}
 
 -- the command's move is the format's for all tables that are as the function was lent, there is room for it, and its bytes are there
 pub record Decides (tables : Book → Type 0) (format : Rules → List ℕ → ℕ → ReadState → Move) (s : List ℕ) (at : ℕ) (p : Progress) (c : Parsed) : Type 0 where

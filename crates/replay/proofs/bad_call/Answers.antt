@@ -1,17 +1,13 @@
-use Rattle.replay.proofs.CallBytes.{scan_start, scan_short, scan_bad, scan_next, scan_end}
+use native.Mathlib.Omega.{arith}
+use Rattle.replay.proofs.CallBytes.{chunk_call, scan_bad, scan_next}
 use Rattle.replay.proofs.bad_call.Goals as goal
 
-pub loop-at-init : goal.loop-at-init
-loop-at-init c = search scan_start
+pub returns-then-is_none : goal.returns-then-is_none
+returns-then-is_none c =
+    let h = chunk_call c.args.calls.now _ c.as_chunks.ensures.front c.loop-i.i (omega arith) _ c.call_of.ensures in
+    (scan_bad c.args.calls.now c.loop-i.i c.loop-i.invariant (omega arith) _ h c.if-is_none.ensures, omega arith)
 
-pub returns-then-calls-at-lt2 : goal.returns-then-calls-at-lt2
-returns-then-calls-at-lt2 c = search scan_short
-
-pub loop-at-preserved : goal.loop-at-preserved
-loop-at-preserved c = search scan_next
-
-pub returns-else-is_call : goal.returns-else-is_call
-returns-else-is_call c = search scan_bad
-
-pub returns : goal.returns
-returns c = search scan_end
+pub loop-i-preserved : goal.loop-i-preserved
+loop-i-preserved c =
+    let h = chunk_call c.args.calls.now _ c.as_chunks.ensures.front c.loop-i.i (omega arith) _ c.call_of.ensures in
+    scan_next c.args.calls.now c.loop-i.i c.loop-i.invariant (omega arith) _ h c.if-is_none.ensures

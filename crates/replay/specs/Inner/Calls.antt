@@ -1,20 +1,15 @@
 -- What the replay's own functions promise each other.
-use Rattle.std.specs.Prelude.{ℕ, ◌*◌, ◌≤◌, ◌<◌, ◌≡◌, List, [], ◌∷◌, ◌++◌, length, drop}
+use Rattle.std.specs.Prelude.{Ok, ℕ, ◌*◌, ◌≤◌, ◌<◌, ◌≡◌, List, ◌++◌, length, drop}
 use Rattle.plain.specs.Plain.{Call, Answer}
-use Rattle.gate.specs.Gate.{answer_of, Sound}
+use Rattle.gate.specs.Gate.{Replied, Sound}
 use Rattle.gate.specs.Chain.{Chain}
 use Rattle.gate.specs.declared.Gate.{Gate}
-use Rattle.gate.specs.declared.Reply.{Reply}
 use Rattle.gate.specs.declared.Reply.TheVariants.{Place}
-use Rattle.replay.specs.Replay.{answer_bytes, answers_bytes}
-use Rattle.replay.specs.declared.AnswerBytes.{AnswerBytes}
+use Rattle.replay.specs.Replay.{answers_bytes}
 
 -- a place fits a byte
-pub record Low (a : Reply) : Type 0 where
-  pub place_low : (p : ℕ) → a ≡ Place p → p < 256
-
-pub record BytesOf (a : Reply) (b : AnswerBytes) : Type 0 where
-  pub bytes : b.first ∷ b.second ∷ [] ≡ answer_bytes (answer_of a)
+pub record Low (a : Replied) : Type 0 where
+  pub place_low : (p : ℕ) → a ≡ Ok (Place p) → p < 256
 
 -- a record, and room for two bytes a call
 pub record AnswersRoom (g : Gate) (xs : List Call) (buffer : List ℕ) : Type 0 where

@@ -17,17 +17,8 @@ returns-then-x-lt10 t c = put_is c.put_byte.ensures (sym (decimal_small c.args.x
 pub put_decimal-k-requires : goal.put_decimal-k-requires
 put_decimal-k-requires t c = (omega arith, omega (arith, decimal_longer c.args.x c.if-x-lt10.false, c.requires))
 
-pub slice_bounds-put_byte-count : goal.slice_bounds-put_byte-count
-slice_bounds-put_byte-count t c = omega (arith, decimal_longer c.args.x c.if-x-lt10.false, c.requires)
-
-pub slice_bounds-put_byte-start : goal.slice_bounds-put_byte-start
-slice_bounds-put_byte-start t c = omega (arith, decimal_longer c.args.x c.if-x-lt10.false, c.requires)
-
 pub put_byte-m-requires : goal.put_byte-m-requires
 put_byte-m-requires t c = room_behind (digit (c.args.x % 10) ∷ []) c.put_decimal-k.ensures (omega (arith, decimal_longer c.args.x c.if-x-lt10.false, c.requires))
-
-pub overflow_add-result : goal.overflow_add-result
-overflow_add-result t c = omega (arith, decimal_longer c.args.x c.if-x-lt10.false, c.requires, c.put_decimal-k.ensures.count, c.put_byte-m.ensures.count)
 
 pub returns : goal.returns
 returns t c = put_is (behind c.put_decimal-k.ensures c.put_byte-m.ensures) (sym (decimal_large c.args.x c.if-x-lt10.false))

@@ -1,21 +1,21 @@
--- The findings are those of the class tests and of the judge, whose lists are the front parts of its buffers.
+-- The findings are those of the class tests and of the judge, whose evidence is in the front parts of its buffers.
 use native.Mathlib.Omega.{arith}
-use Rattle.report.proofs.FindingsLaws.{findings_on, few_done, list_short, text_put}
+use Rattle.report.proofs.FindingsLaws.{findings_on, count_short, few_done, text_put}
 use Rattle.report.proofs.put_accepted.Goals as goal
+
+pub evidence_of-evidence-requires : goal.evidence_of-evidence-requires
+evidence_of-evidence-requires c =
+    let judged = c.judge_book-judgement in
+    count_short _ judged.new.order _ judged.new.cycle (omega arith) (omega arith) c.args.b c.requires.0 judged.result.verdict judged.result.count judged.ensures.judged_as
 
 pub put_findings-requires : goal.put_findings-requires
 put_findings-requires c =
     let start = c in
-    (few_done start.args.b start.requires.0, search list_short, search list_short, start.requires.1)
+    (few_done start.args.b start.requires.0, c.evidence_of-evidence.ensures.short, start.requires.1)
 
 pub returns : goal.returns
 returns c =
-    let values = c in
-    let list = values in
-    let judged = list.judge_book-judgement in
-    let classes = list in
-    let start = classes in
+    let judged = c.judge_book-judgement in
     text_put _
-    (rw (c.is_passed.ensures, list.front-list.ensures.result_value, values.front-values.ensures.result_value)
-    (findings_on _ judged.new.order _ judged.new.cycle _ judged.new.values (omega arith) (omega arith) start.args.b start.requires.0 classes.classes_of-classes.result classes.classes_of-classes.ensures judged.result judged.ensures.judged_as judged.ensures.evidence_named))
+    (findings_on _ judged.new.order _ judged.new.cycle _ judged.new.values (omega arith) (omega arith) c.args.b c.requires.0 c.classes_of-classes.result c.classes_of-classes.ensures judged.result judged.ensures.judged_as judged.ensures.evidence_named _ c.evidence_of-evidence.ensures.verdict_is)
     c.put_findings.ensures

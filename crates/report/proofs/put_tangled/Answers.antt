@@ -5,7 +5,4 @@ use Rattle.report.proofs.TextLaws.{tangled_text}
 use Rattle.report.proofs.put_tangled.Goals as goal
 
 pub returns : goal.returns
-returns c =
-    let list = c in
-    let start = list in
-    within_is (behind_within list.put_list-n.ensures c.put_arcs-m.ensures) (tangled_text start.args.list.now start.args.values.now) (omega (arith, start.requires.0, start.requires.1))
+returns c = within_is (behind_within c.put_list-n.ensures c.put_list-m.ensures) (tangled_text c.args.places.now c.args.values.now) (omega (arith, c.requires.0, c.requires.1))

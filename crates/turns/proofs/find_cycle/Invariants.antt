@@ -1,14 +1,8 @@
 -- The invariant is `Walked`: the places so far are distinct and none of them is taken, so each has a source that is not taken
 -- either, and within n turns one comes again.
-use Prim.Native.Nat.{◌-◌}
 use mathlib.Core.Path.{◌≡◌}
-use lib.ListN.{length}
-use Rattle.book.specs.Format.{step_limit}
 use Rattle.turns.proofs.WalkBack.{Walked}
 use Rattle.turns.proofs.find_cycle.Given as goal
 
 abbrev pub invariant-loop-len : goal.invariant-loop-len
-invariant-loop-len l = (l.cycle ≡ l.initial.cycle) × (length l.cycle ≡ length l.initial.cycle) × Walked l.arc l.taken l.n l.trail l.seen l.v l.len
-
-abbrev pub decreases-loop-len : goal.decreases-loop-len
-decreases-loop-len l = step_limit - l.len
+invariant-loop-len l = (l.cycle ≡ l.initial.cycle) × Walked l.arc l.taken l.n l.trail l.seen l.v l.len

@@ -1,15 +1,13 @@
-use Rattle.turns.proofs.ReadyPlaces.{taken_none, ready_more, first_at, first_none}
+-- The search finds the first place from `from` on that is ready, and those below are taken.
 use borrow.Author.Rules.{rules}
+use Rattle.std.proofs.lemmas.Iterator.{first_from_Range}
+use Rattle.turns.specs.Inner.Turns.{ReadyIn}
+use Rattle.turns.proofs.ReadyPlaces.{first_ready}
 use Rattle.turns.proofs.ready.Goals as goal
 
-pub loop-p-init : goal.loop-p-init
-loop-p-init c = (search rules, search taken_none)
-
-pub returns-then-is_ready : goal.returns-then-is_ready
-returns-then-is_ready c = search first_at
-
-pub loop-p-preserved : goal.loop-p-preserved
-loop-p-preserved c = (search rules, search ready_more)
-
 pub returns : goal.returns
-returns c = search first_none
+returns c =
+    let a = c.args in
+    first_ready a.arc.now a.taken.now a.from a.n c.requires.2 c.find.result
+    (first_from_Range _ _ _ c.find.result (ReadyIn a.arc.now a.taken.now) (λ p. ¬ ReadyIn a.arc.now a.taken.now p) c.find.ensures.ran (λ p q k. search rules)
+    (λ p q k. search rules))

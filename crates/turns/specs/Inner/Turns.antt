@@ -1,9 +1,7 @@
 -- The turns of the greedy order, read off tables: sets of places, the smallest ready place, the places that are taken.
-use Rattle.std.specs.Prelude.{ℕ, ◌≤◌, ◌<◌, ◌≡◌, ◌⊎◌, Bool, List, length, take}
+use Rattle.std.specs.Prelude.{ℕ, ◌≤◌, ◌<◌, ◌≡◌, ◌⊎◌, Bool, List, length, take, Option, Some, None}
 use Rattle.theory.specs.Graph.{Arc, Taken, Greedy}
 use Rattle.bits.specs.Table.{row_bits, bit_at}
-use Rattle.bits.specs.declared.Found.{Found}
-use Rattle.bits.specs.declared.Found.TheVariants.{At, Nothing}
 use Rattle.dependence.specs.Marks.{Marks}
 use Rattle.turns.specs.declared.Turns.{Turns}
 
@@ -28,9 +26,9 @@ pub record LeastReady (arc taken : List ℕ) (n p : ℕ) : Type 0 where
   pub ready : ReadyIn arc taken p
   pub least : NoneReady arc taken p
 
-abbrev pub FirstReady : List ℕ → List ℕ → ℕ → Found → Type 0
-FirstReady arc taken n (At p) = LeastReady arc taken n p
-FirstReady arc taken n Nothing = NoneReady arc taken n
+abbrev pub FirstReady : List ℕ → List ℕ → ℕ → Option ℕ → Type 0
+FirstReady arc taken n (Some p) = LeastReady arc taken n p
+FirstReady arc taken n None = NoneReady arc taken n
 
 -- every place below n is taken
 pub record AllTaken (taken : List ℕ) (n : ℕ) : Type 0 where

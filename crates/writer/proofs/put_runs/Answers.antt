@@ -2,15 +2,16 @@ use mathlib.Core.Path.{refl}
 use native.Mathlib.Nat.{le_refl}
 use native.Mathlib.Numerals.{add-one}
 use native.Mathlib.Omega.{arith}
+use lib.ListN.{length}
 use Rattle.theory.proofs.Lists.{sum_take}
-use Rattle.buffer.proofs.InTurn.{putting_exact, putting_left, putting_next, putting_all}
+use Rattle.buffer.proofs.InTurn.{putting_exact, putting_left, putting_next}
 use Rattle.writer.proofs.GroupLaws.{run_pieces, run_coded, run_within, run_codes_are}
 use Rattle.writer.proofs.put_runs.Goals as goal
 
 pub loop-r-init : goal.loop-r-init
 loop-r-init c =
     let s = c in
-    (putting_exact (run_pieces s.args.lengths.now s.args.steps.now s.args.declared s.requires.0.lengths) s.requires.1, refl)
+    (putting_exact (run_pieces s.args.lengths.now s.args.steps.now (length s.args.lengths.now) s.requires.0.lengths) s.requires.1, refl)
 
 pub slice_bounds-put_run-end : goal.slice_bounds-put_run-end
 slice_bounds-put_run-end c =
@@ -20,9 +21,6 @@ slice_bounds-put_run-end c =
 
 pub overflow_add-end : goal.overflow_add-end
 overflow_add-end c = omega (arith, slice_bounds-put_run-end c)
-
-pub overflow_cast-r : goal.overflow_cast-r
-overflow_cast-r c = omega (arith, c.requires.0.few)
 
 pub offset_bounds-steps-base : goal.offset_bounds-steps-base
 offset_bounds-steps-base c = omega (arith, slice_bounds-put_run-end c)
@@ -46,9 +44,3 @@ loop-r-preserved c =
       putting_next l.loop-r.invariant.0 t.loop-r-test.true (le_refl _) (rw e at c.put_run-n.ensures),
       rw add-one (omega (arith, l.loop-r.invariant.1, w.wide.ensures.0, sum_take s.args.lengths.now l.loop-r.r)),
     )
-
-pub overflow_add-at : goal.overflow_add-at
-overflow_add-at c = omega (arith, (loop-r-preserved c).0.within)
-
-pub returns : goal.returns
-returns c = putting_all c.loop-r.invariant.0 c.loop-r-test.false

@@ -1,11 +1,11 @@
 -- The bytes of each group's tables, and what the functions that put them ask for. No part of the statement of `write`.
-use Rattle.std.specs.Prelude.{ℕ, ◌+◌, ◌≤◌, ◌<◌, ◌≡◌, List, [], map, length, get_or, take, eqb}
+use Rattle.std.specs.Prelude.{ℕ, ◌+◌, ◌*◌, ◌≤◌, ◌<◌, ◌≡◌, List, [], map, length, get_or, take, drop, eqb}
 use Rattle.buffer.specs.Each.{each}
 use Rattle.theory.specs.Deck.{Step}
 use Rattle.theory.specs.Lists.{sum}
 use Rattle.book.specs.Format.{run_limit, pick, Contents, contents, Command, pair, step, cut, done, command_bytes}
 use Rattle.book.specs.Render.{run_commands}
-use Rattle.book.specs.Book.{pairs_size, cuts_size, code_limit, cut_of, step_coded, flagged, runs_of_lengths, pairs_of, cuts_of}
+use Rattle.book.specs.Book.{pairs_size, cuts_size, code_limit, pair_of, cut_of, step_coded, flagged, runs_of_lengths, pairs_of, cuts_of}
 
 abbrev pub bytes_of : List Command → List ℕ
 bytes_of = each command_bytes
@@ -27,6 +27,34 @@ cut_commands_from i cs = map cut (map cut_of (flagged i cs))
 
 abbrev pub step_commands : List ℕ → List Command
 step_commands ss = map step (map step_coded ss)
+
+-- ---- the commands one by one, at index k
+
+abbrev pub pair_piece : List ℕ → ℕ → List ℕ
+pair_piece ps k = flag_bytes (get_or ps k 0) (pair (pair_of k))
+
+-- of which the first flag is at index i
+abbrev pub cut_piece : ℕ → List ℕ → ℕ → List ℕ
+cut_piece i cs k = flag_bytes (get_or cs k 0) (cut (cut_of (i + k)))
+
+-- block k of a table in blocks of w flags
+abbrev pub block : ℕ → List ℕ → ℕ → List ℕ
+block w cs k = take w (drop (k * w) cs)
+
+abbrev pub block_piece : ℕ → List ℕ → ℕ → List ℕ
+block_piece w cs k = bytes_of (cut_commands_from (k * w) (block w cs k))
+
+-- how many flags the writer's blocks have
+abbrev pub block_size : ℕ
+block_size = 8 * run_limit
+
+abbrev pub step_piece : List ℕ → ℕ → List ℕ
+step_piece ss k = command_bytes (step (step_coded (get_or ss k 0)))
+
+abbrev pub done_piece : List ℕ → ℕ → List ℕ
+done_piece h k = command_bytes (done (get_or h k 0))
+
+-- ---- runs and contents
 
 -- d runs of these lengths, divided off the steps of these codes
 abbrev pub runs_divided : ℕ → List ℕ → List ℕ → List (List Step)
